@@ -29,8 +29,7 @@ feasible_two = record {
   started = each_of_two (λ r. 1000 ≤ in_rank_order r) (omega arith) (omega arith);
   separated = λ f g i j ne le. pairs f i g j ne le;
   in_order = λ f g i j b. absurd (false≢true b);
-  not_early = each_of_two (λ r. r ≤ suc (earlier 2 in_rank_order r) + 1) (omega arith)
-      (let e : earlier 2 in_rank_order 2 ≡ 1 = refl in omega arith);
+  not_early = each_of_two (λ r. r ≤ suc (earlier 2 in_rank_order r) + 1) (omega arith) (omega arith);
   not_late = each_of_two (λ r. suc (earlier 2 in_rank_order r) ≤ r + 1) (omega arith) (omega arith);
 }
   where

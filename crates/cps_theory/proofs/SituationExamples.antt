@@ -19,11 +19,7 @@ seven_ranks_first : rank_in ltb (7 ∷ 9 ∷ []) 7 ≡ 1
 seven_ranks_first = refl
 
 keeps_shift : KeepsCountedShift 1 (λ f. 1) ltb plan (7 ∷ 9 ∷ []) 7
-keeps_shift = (
-  let e : place_in plan (7 ∷ 9 ∷ []) 7 ≡ 2 = refl in let r : rank_in ltb (7 ∷ 9 ∷ []) 7 ≡ 1 =
-      refl in omega arith,
-  omega arith,
-)
+keeps_shift = omega arith
 
 -- it was passed over once, so that the next time it may not go back
 frozen_nine : frozen_of plan 1100 (7 ∷ 9 ∷ []) ≡ 9 ∷ []
@@ -37,7 +33,7 @@ overtaken_once = refl
 
 by_number : FirstCome ltb
 by_number = record {
-  one_way = λ a b e. le-ltb b a (let l = ltb-true a b e in omega arith);
+  one_way = λ a b e. le-ltb b a (omega (arith, ltb-true a b e));
   chain = λ a b c e f. lt-ltb a c (let l = ltb-true a b e in let m = ltb-true b c f in omega arith);
   total = λ a b ne e. lt-ltb b a (let l =
       ltb-false a b e in elim (cases_eq a b) [ inl s ↦ absurd (ne s) | inr ne' ↦ omega arith ]);
@@ -81,11 +77,7 @@ feasible_situation = record {
       (two_of (λ g. 7 ≢ g → 1040 ≤ landing_of g → 1100 ≤ landing_of g) (λ ne le. absurd (omega arith))
       (λ ne le. absurd (ne refl)) g j) f i;
   in_order = λ f g i j l. absurd (false≢true l);
-  shifted = one_of (λ f. KeepsCountedShift 1 (λ f. 1) ltb landing_of (7 ∷ []) f) 7 (
-    let e : place_in landing_of (7 ∷ []) 7 ≡ 1 = refl in let r : rank_in ltb (7 ∷ []) 7 ≡ 1 =
-        refl in omega arith,
-    omega arith,
-  );
+  shifted = one_of (λ f. KeepsCountedShift 1 (λ f. 1) ltb landing_of (7 ∷ []) f) 7 (omega arith, omega arith);
 }
 
 sound_situation : SoundSituation situation
@@ -125,7 +117,7 @@ problem_is = record {
   apart_is = λ q r. refl;
   before_is = λ q r i j. refl;
   start_low = λ r t le. (omega arith, λ x i most. omega arith);
-  start_high = λ r t le after. after 5 (inl refl) (one_of (λ f. 980 ≤ 980) 5 (omega arith));
+  start_high = λ r t le after. after 5 (inl refl) (omega arith);
   at_in = λ r i. inl refl;
   at_all = λ f i. (1, (omega arith, omega arith), one_of (λ x. 7 ≡ x) 7 refl f i);
   at_order = λ q r i j lt. absurd (omega arith);

@@ -41,7 +41,7 @@ module _ {S : Type 0} (node_of : S → PatternNode) (pairs_of : S → List Pair)
     | inl h ↦
         let t = and_parts (is_eq (node_cmp (node_of s) w)) (list_any (λ o. no_worse o q) (pairs_of s)) h in
         let m = no_worse_found q _ t.1 in
-        (m.0, inl (node_tie (node_of s) w (eq_of _ t.0), m.1), m.2)
+        (m.0, inl (node_tie _ w (eq_of _ t.0), m.1), m.2)
     | inr h ↦ let m = covers_listed w q ss h in (m.0, inr m.1, m.2)
   ]
 
@@ -54,8 +54,7 @@ module _ {S : Type 0} (node_of : S → PatternNode) (pairs_of : S → List Pair)
     unfolding first_missed
     none_missed w pairs e r b q m i n =
         let out = from_none _ 1 g.count e r m.from_one (omega arith) in
-        let quiet = and_false _ _ out (permits_is g w r m) in
-        let kept = any_false _ b _ quiet i in
+        let kept = any_false _ b _ (and_false _ _ out (permits_is g w r m)) i in
         let left = ap (is_not_covered node_of pairs_of all (pattern_push g w r)) (sym n) ∙ kept in
         not-false _ left
 
@@ -78,8 +77,7 @@ module _ {S : Type 0} (node_of : S → PatternNode) (pairs_of : S → List Pair)
       step = λ w r p q l m e. elim l [
         | inl s ↦
             let m' = subst (λ (z : PatternNode). PatternPermits g z r) s.0 m in
-            let e' = subst (λ (z : PatternNode). next_pair first after cost z.2 (0, 0) r ≡ Some q) s.0
-            (subst (λ (z : Pair). next_pair first after cost w.2 z r ≡ Some q) s.1 e) in
+            let e' = subst (λ (z : PatternNode). next_pair first after cost z.2 (0, 0) r ≡ Some q) s.0 (cc) in
             let c = none_missed (pattern_node g []) ((0, 0) ∷ []) from_start r (0, 0) q m' (inl refl) e' in
             let o = covers_listed (pattern_push g (pattern_node g []) r) q all c in (
               o.0,

@@ -51,7 +51,7 @@ module _ {S : Type 0} (node_of : S → PatternNode) (pairs_of : S → List Pair)
       → w.0 ≡ n → IsListed node_of pairs_of ss w q → v ≤ value q
   final_not_below n value v ss e w q at l =
       let k = listed_passes_not _ 1 ss e w q l in
-      none_below _ v _ q (go _ _ (eq-eqb _ n (ap (λ (z : PatternNode). z.0) k.1 ∙ at)) k.3) k.2
+      none_below _ v _ q (go _ _ (eq-eqb _ n (cc)) k.3) k.2
     where
       go : (a b : Bool) → a ≡ true → a && b ≡ false → b ≡ false
       go true b x y = y
@@ -61,7 +61,7 @@ module _ {S : Type 0} (node_of : S → PatternNode) (pairs_of : S → List Pair)
       → (w : PatternNode) (q : Pair) → w.0 ≡ n → IsListed node_of pairs_of ss w q → ⊥
   none_final n ss e w q at l =
       let k = listed_passes_not _ 1 ss e w q l in
-      false≢true (sym k.3 ∙ (eq-eqb (node_of k.0).0 n (ap (λ (z : PatternNode). z.0) k.1 ∙ at)))
+      false≢true (sym k.3 ∙ (eq-eqb _ n (cc)))
 
   -- ---- for a problem, the states of which miss no successor pair, whatever else they list
   module _ (p : RankedProblem) (cost : ℕ → ℕ → ℕ) (sound : SoundProblem p) (first : ℕ → ℕ

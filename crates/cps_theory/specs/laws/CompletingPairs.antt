@@ -22,8 +22,8 @@ completing_undominated Completing Keeps k anti p kept = record {
   best = λ q a le.
       let c = k.covers q a in
       let e = anti c.0 p c.1 kept (no_earlier_no_dearer_trans c.0 q p c.2 le) in
-      let first = subst (λ (x : Pair). q.0 ≤ x.0) e c.2.0 in
-      ap₂ (λ x y. (x, y)) (le_antisymm first le.0) (le_antisymm le.1 (subst (λ (x : Pair). x.1 ≤ q.1) e c.2.1));
+      ap₂ (λ x y. (x, y)) (le_antisymm (subst (λ (x : Pair). q.0 ≤ x.0) e c.2.0) le.0)
+      (le_antisymm le.1 (subst (λ (x : Pair). x.1 ≤ q.1) e c.2.1));
 }
 
 pub undominated_completing : (Completing Keeps : Pair → Type 0) → KeptCompleting Completing Keeps
@@ -61,14 +61,13 @@ module _ (W : Type 0) (Open : ℕ → ℕ → Type 0) (first : ℕ → ℕ → O
       → Open r t → after (newest w) b r ≤ t → Reached Open after Legal node (push w r) t
   reached_push w b r t x p o le =
       let rs = ranks x.landings in
-      let l = ap newest (sym x.at) ∙ newest_last _ x.legal in
       record {
         landings = (r, t) ∷ x.landings;
         legal = net.grows r rs x.legal (subst (λ v. Permitted v r) (sym x.at) p);
         landed = (
           o,
           le_trans (later.mono (latest_landing x.landings).0 (latest_landing x.landings).1 b r x.by)
-              (subst (λ k. after k b r ≤ t) l le),
+              (subst (λ k. after k b r ≤ t) (ap newest (sym x.at) ∙ newest_last _ x.legal) le),
           x.landed,
         );
         at = net.pushes r rs x.legal ∙ ap (λ v. push v r) x.at;

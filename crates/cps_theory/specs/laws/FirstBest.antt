@@ -1,5 +1,5 @@
 -- There is at most one first best schedule, and least choices build it, whatever the objective.
-use Rattle.std.proofs.Common.{◌≡◌, ◌≢◌, ℕ, ◌+◌, ◌≤◌, List, [], ◌∷◌, length, Option, Some, true, arith, refl, sym, ap}
+use Rattle.std.proofs.Common.{◌≡◌, ◌≢◌, ℕ, ◌≤◌, List, [], ◌∷◌, length, Option, Some, true, arith, refl, sym, ap}
 use Rattle.std.proofs.Common.{subst, ◌∙◌, le_trans}
 use Rattle.cps_theory.specs.RankLists.{IsRank}
 use Rattle.cps_theory.specs.Separation.{Landing}
@@ -42,9 +42,9 @@ first_best_unique p sound value t u a b r q =
     let ou = sorted_in_order p u sound fu in
     let e = no_greater_order_antisym qs os (a.least u b.best b.tight qs os ot ou)
     (b.least t a.best a.tight os qs ou ot) in
-    let s = sym (onto_twice _ []) ∙ ap (λ l. onto l []) e ∙ onto_twice _ [] in
     let dt = separate p t sound ft in
-    let du = subst (Descends u) (sym s) (separate p u sound fu) in
+    let du = subst (Descends u) (sym (sym (onto_twice _ []) ∙ ap (λ l. onto l []) e ∙ onto_twice _ []))
+    (separate p u sound fu) in
     tight_unique p t u a.tight b.tight (λ f g qf qg. let i = in_sorted t n f qf in let j = in_sorted t n g qg in
     (descends_same t u _ dt du f g i j, descends_same u t _ du dt f g i j)) r q
 
@@ -52,11 +52,13 @@ first_best_unique p sound value t u a b r q =
 pub nodes_closed : (p : RankedProblem) → SoundProblem p → (rs : List ℕ) (r : ℕ) → Legal p.rules rs
     → length rs ≡ p.rules.count → PatternPermits p.rules (pattern_node p.rules rs) r → ⊥
 nodes_closed p sound rs r l whole permitted =
-    let pl = legal_each_fits p.rules (r ∷ rs)
-    ((pattern_network p.rules (λ a x b. (sound.ranked a x b).0)).grows r rs l permitted) in
-    let few = few_ranks p.rules.count (r ∷ rs) (each_fits_distinct p.rules (r ∷ rs) pl)
-    (λ x i. in_from_one p.rules x (r ∷ rs) pl i) in
-    omega arith
+    let pl = legal_each_fits _ (r ∷ rs)
+    ((pattern_network _ (λ a x b. (sound.ranked a x b).0)).grows r rs l permitted) in
+    omega (
+      arith,
+      few_ranks p.rules.count (r ∷ rs) (each_fits_distinct p.rules (r ∷ rs) pl)
+          (λ x i. in_from_one p.rules x (r ∷ rs) pl i),
+    )
 
 module _ (p : RankedProblem) (sound : SoundProblem p) (first : ℕ → ℕ → Option ℕ)
     (opens : IsFirstOpen (λ r u. p.is_open r u ≡ true) first) where
@@ -70,10 +72,8 @@ module _ (p : RankedProblem) (sound : SoundProblem p) (first : ℕ → ℕ → O
     -- nothing follows the node of a whole prefix
     closed : (rs : List ℕ) (r : ℕ) → Legal p.rules rs → stage (node rs) ≡ p.rules.count → Permitted (node rs) r → ⊥
     closed rs r l whole permitted =
-        let pl = legal_each_fits p.rules (r ∷ rs) (net.grows r rs l permitted) in
-        let few = few_ranks p.rules.count (r ∷ rs) (each_fits_distinct p.rules (r ∷ rs) pl)
-        (λ x i. in_from_one p.rules x (r ∷ rs) pl i) in
-        let s = staged rs in
+        let pl = legal_each_fits _ (r ∷ rs) (net.grows r rs l permitted) in
+        let few = few_ranks _ (r ∷ rs) (each_fits_distinct _ (r ∷ rs) pl) (λ x i. in_from_one _ x (r ∷ rs) pl i) in
         omega arith
 
     -- a landing trail of least choices is an order of least choices
@@ -87,14 +87,7 @@ module _ (p : RankedProblem) (sound : SoundProblem p) (first : ℕ → ℕ → O
     built_greedy [] b l qs g = (qs, g, refl)
     built_greedy (x ∷ xs) b l qs g =
         let s = net.shrinks x.0 (ranks xs) l in
-        built_greedy xs b.2 s.0 (x.0 ∷ qs) (
-          x.1,
-          b.0,
-          b.1,
-          subst (λ w. LeastChoices W first (next_from p) cost Permitted push newest
-              (λ v. stage v ≡ p.rules.count) Keeps budget w (x.1, cost_of cost xs + cost x.0 x.1) qs)
-              (net.pushes x.0 (ranks xs) s.0) g,
-        )
+        built_greedy xs b.2 s.0 (x.0 ∷ qs) (x.1, b.0, b.1, rw (net.pushes x.0 (ranks xs) s.0) at g)
 
     -- which lands at its earliest seconds
     pub built_earliest : (zs : List Landing)
@@ -168,28 +161,24 @@ module _ (p : RankedProblem) (sound : SoundProblem p) (first : ℕ → ℕ → O
     built_first value v within back least zs legal whole built =
         let n = p.rules.count in
         let g = built_greedy zs built legal [] (staged (ranks zs) ∙ whole) in
-        let f = least_choices_first W (λ r u. p.is_open r u ≡ true) first (next_from p) cost
-        _ node Permitted push newest opens (next_later p) dearer net
-        _ closed Low lower Keeps kept budget net.empty g.0 g.1 in
+        let f = least_choices_first W _ _ _ _ _ _ _ _ _ opens (next_later p) dearer net
+        _ closed Low lower _ kept budget net.empty g.0 g.1 in
         let t = second_in zs in
-        let rs : List ℕ = ranks zs in
+        let rs = ranks zs in
         let e = built_earliest zs built legal in
-        let et = earliest_tight p sound first opens zs legal whole e in
+        let et = earliest_tight p sound _ opens zs legal whole e in
         let good = f.0 in
-        let landings_is =
-        some_same good.landings zs (sym good.earliest_is ∙ ap (earliest first (next_from p)) g.2 ∙ e) in
-        let landed = (earliest_lands (λ r u. p.is_open r u ≡ true) first (next_from p) opens rs zs e).0 in
+        let landings_is = some_same good.landings zs (cc) in
+        let landed = (earliest_lands _ _ (next_from p) opens rs zs e).0 in
         let tf = landing_trail_feasible p cost sound zs legal landed whole in
-        let v_zs : value (pair_of cost zs) ≤ v = back zs legal landed whole (rw landings_is at good.low)
-        (subst (λ (xs : List Landing). cost_of cost xs ≤ budget) landings_is good.cheap) in
+        let v_zs = back zs legal landed whole (rw landings_is at good.low) (rw landings_is at good.cheap) in
         let v_t : value (second_and_cost cost n t) ≤ v = rw tf.1 at v_zs in (
           record {
             best = record { feasible = tf.0; least = λ u fu. le_trans v_t (least u fu) };
             tight = et.0;
             least = λ u bu tu qs os oq ou.
-                let q_is = in_order_sorted p t sound tf.0 qs oq ∙ et.1 ∙ sym g.2 in
-                let qs_is : g.0 ≡ qs = sym (onto_twice g.0 []) ∙ ap (λ l. onto l []) (sym q_is) ∙ onto_twice qs [] in
-                let o_is = sym (in_order_sorted p u sound bu.feasible os ou) in
+                let qs_is : g.0 ≡ qs = sym (onto_twice g.0 []) ∙ ap (λ l. onto l [])
+                (sym (in_order_sorted p t sound tf.0 qs oq ∙ et.1 ∙ sym g.2)) ∙ onto_twice qs [] in
                 let su = sorted u n in
                 let us = at_seconds u su in
                 let fl = feasible_lands p u sound bu.feasible in
@@ -210,7 +199,7 @@ module _ (p : RankedProblem) (sound : SoundProblem p) (first : ℕ → ℕ → O
                 } in
                 subst (λ l. NoGreaterOrder l os) qs_is
                 (f.1 os (subst (λ l. OrderWithinBudget first (next_from p) cost (Legal p.rules) node
-                (λ z. stage z ≡ n) Low budget l) o_is gu));
+                (λ z. stage z ≡ n) Low budget l) (sym (in_order_sorted p u sound bu.feasible os ou)) gu));
           },
           e,
         )

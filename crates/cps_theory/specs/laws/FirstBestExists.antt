@@ -150,7 +150,6 @@ module _ (p : RankedProblem) (sound : SoundProblem p) (first : ℕ → ℕ → O
             least = λ v fv.
                 let o = feasible_ordered v fv in
                 let b = a.least (sorted v n) (sorted_ranks v) o.lands in
-                let c = o.cheap in
                 elim b [ inl lt ↦ omega arith | inr e ↦ (omega arith) ];
           };
           tight = et.0;

@@ -53,7 +53,7 @@ module _ (p : RankedProblem) (sound : SoundProblem p) (first : ℕ → ℕ → O
         → FirstBest p (λ u. (second_and_cost (λ x t. 0) p.rules.count u).0) (second_in zs)
         × (earliest first (next_from p) (ranks zs) ≡ Some zs)
     built_first_makespan kept least zs legal whole built =
-        built_first p sound _ opens _ (record { mono = λ r t u le. zero-le }) W _ _ staged _ _ _ net
+        built_first p sound _ opens _ (omega arith) W _ _ staged _ _ _ net
         _ (λ t u le h. le-leb t v (le_trans le (leb-true u v h))) _ kept 0 (λ q. q.0) v
         (λ xs l d w le. (low_true v xs (landed_low v xs l d le), omega (arith, no_cost xs)))
         (λ xs l d w a c. low_last v xs a) least zs legal whole built

@@ -34,7 +34,7 @@ agree_legal d g g' agree (r ∷ rs) l lt =
           from_one = f.from_one;
           to_count = omega (arith, agree.there);
           is_new = f.is_new;
-          not_early = let a = f.not_early in omega arith;
+          not_early = omega (arith, f.not_early);
           not_late = let a = f.not_late in omega arith;
           after = λ a b. elim (cases_lt a d) [
             | inl a_low ↦ f.after a (agree.same_before a r a_low low b)

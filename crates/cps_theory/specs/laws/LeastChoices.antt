@@ -56,7 +56,7 @@ module _ (W : Type 0) (Open : ℕ → ℕ → Type 0) (first : ℕ → ℕ → O
             landings = e.0;
             earliest_is = e.1;
             low = no_later_low Low lower e.0 ws e.2 f.3;
-            cheap = let m = no_later_cost cost dearer e.0 ws e.2 in omega arith;
+            cheap = omega (arith, no_later_cost cost dearer e.0 ws e.2);
           }),
         )
 
@@ -90,7 +90,6 @@ module _ (W : Type 0) (Open : ℕ → ℕ → Type 0) (first : ℕ → ℕ → O
           cost_is = refl;
         } in
         let o = (kept (ranks xs) r f.0).covers (t, cost_of cost ys) done in
-        let here = ap (λ l. node (r ∷ l)) ranked ∙ net.pushes r rs shorter.0 in
         let newest_xs = ap (λ l. newest (node l)) (sym ranked) ∙ newest_last W _ _ _ _ _ _ _ _ _ opens later
         dearer net Final closed Low lower xs (rw ranked shorter.0) in
         let total =
@@ -99,7 +98,12 @@ module _ (W : Type 0) (Open : ℕ → ℕ → Type 0) (first : ℕ → ℕ → O
           record {
             permitted = shorter.1;
             found = ap (λ k. first r (after k (latest_landing xs).1 r)) newest_xs ∙ (rw same at h.3);
-            can_end = (o.0, subst (λ v. Keeps v o.0) here o.1, o.2.0, omega arith);
+            can_end = (
+              o.0,
+              subst (λ v. Keeps v o.0) (ap (λ l. node (r ∷ l)) ranked ∙ net.pushes r rs shorter.0) o.1,
+              o.2.0,
+              omega arith,
+            );
           },
           legal,
           w.2 ∙ ap Some head,
@@ -120,8 +124,7 @@ module _ (W : Type 0) (Open : ℕ → ℕ → Type 0) (first : ℕ → ℕ → O
         let o = c.can_end in (
           legal,
           earliest_more first after r t rs xs e f,
-          lower t o.0.0 o.2
-              ((kept rs r legal).completes o.0 (rw (net.pushes r rs l) o.1)).low,
+          lower t o.0.0 o.2 ((kept rs r legal).completes o.0 (rw (net.pushes r rs l) o.1)).low,
           (omega arith),
         )
 

@@ -31,23 +31,21 @@ next_later p = record { mono = mono }
 pub at_second_in : (xs : List Landing) → Distinct (ranks xs) → at_seconds (second_in xs) (ranks xs) ≡ xs
 at_second_in [] d = refl
 at_second_in (x ∷ xs) d =
-    let here = ap (λ b. cond b x.1 (second_in xs x.0)) (eq-eqb x.0 x.0 refl) in
     let rest = at_seconds_agree _ (second_in xs) (ranks xs)
     (λ r i. ap (λ b. cond b x.1 (second_in xs r)) (ne_eqb r x.0 (λ e. d.0 (rw e at i)))) in
-    ap₂ (λ u ys. (x.0, u) ∷ ys) here (rest ∙ at_second_in xs d.1)
+    ap₂ (λ u ys. (x.0, u) ∷ ys) (ap (λ b. cond b x.1 (second_in xs x.0)) (eq-eqb x.0 x.0 refl))
+    (rest ∙ at_second_in xs d.1)
 
 module _ (p : RankedProblem) (cost : ℕ → ℕ → ℕ) (sound : SoundProblem p) where
   -- the pair of a whole order is that of the map
   pub pair_all : (t : ℕ → ℕ) (rs : List ℕ) → LandsAllRanks p t rs
       → pair_of cost (at_seconds t rs) ≡ second_and_cost cost p.rules.count t
-  pair_all t rs l = ap₂ (λ a b. (a, b))
-      (le_antisymm (low rs l) (greatest_least t p.rules.count (latest_landing (at_seconds t rs)).1
+  pair_all t rs l = ap₂ (λ a b. (a, b)) (le_antisymm (low rs l) (greatest_least t _ _
       (last_greatest p t sound rs l))) (cost_all p t sound _ rs l)
     where
       low : (rs : List ℕ) → LandsAllRanks p t rs → (latest_landing (at_seconds t rs)).1 ≤ greatest t p.rules.count
       low [] l = omega arith
-      low (r ∷ rs) l = at_most_greatest t p.rules.count r
-          (in_from_one p.rules r (r ∷ rs) (legal_each_fits _ (r ∷ rs) l.legal) (inl refl))
+      low (r ∷ rs) l = at_most_greatest t _ r (in_from_one _ r (r ∷ rs) (legal_each_fits _ (r ∷ rs) l.legal) (inl refl))
 
   -- feasible seconds make a landed legal order of all flights, with their pair
   pub feasible_landing_trail : (t : ℕ → ℕ) → Feasible p t → (xs : List Landing) × Legal p.rules (ranks xs)
@@ -89,7 +87,7 @@ module _ (p : RankedProblem) (cost : ℕ → ℕ → ℕ) (sound : SoundProblem 
           → Lists w q → v ≤ value q) → (t : ℕ → ℕ) → Feasible p t → v ≤ value (second_and_cost cost p.rules.count t)
       closed_certificate_optimal v final t f =
           let x = feasible_landing_trail t f in
-          subst (λ q. v ≤ value q) x.4 (closed_landings_optimal _ _
+          rw x.4 at (closed_landings_optimal _ _
           _ _ opens (next_later p) dearer _ ones _ c _ mono v final x.0 x.1 x.2 x.3)
 
       pub closed_certificate_infeasible : ((w : PatternNode) (q : Pair) → w.0 ≡ p.rules.count → Lists w q → ⊥)

@@ -17,8 +17,8 @@ kept_undominated Attains Keeps k anti p kept = record {
   best = λ q a le.
       let c = k.covers q a in
       let e = anti c.0 p c.1 kept (no_worse_trans c.0 q p c.2 le) in
-      let first = subst (λ x. x.0 ≤ q.0) e c.2.0 in
-      ap₂ (λ x y. (x, y)) (le_antisymm le.0 first) (le_antisymm le.1 (subst (λ x. x.1 ≤ q.1) e c.2.1));
+      ap₂ (λ x y. (x, y)) (le_antisymm le.0 (subst (λ x. x.0 ≤ q.0) e c.2.0))
+      (le_antisymm le.1 (subst (λ x. x.1 ≤ q.1) e c.2.1));
 }
 
 pub undominated_kept : (Attains Keeps : Pair → Type 0) → Kept Attains Keeps → (p : Pair) → Undominated Attains p
@@ -38,8 +38,7 @@ module _ (W : Type 0) (Open : ℕ → ℕ → Type 0) (first : ℕ → ℕ → O
   attained_next w p r q a permitted e =
       let xs = a.landings in
       let l = ap newest (sym a.at) ∙ net.newest_is (ranks xs) a.legal in
-      let n = next_lands _ _ _ _ opens later dearer xs r q a.landed
-      (ap₂ (λ k x. next_pair first after cost k x r) (sym l) a.is ∙ e) in
+      let n = next_lands _ _ _ _ opens later dearer xs r q a.landed (cc) in
       record {
         landings = (r, q.0) ∷ xs;
         legal = net.grows r (ranks xs) a.legal (subst (λ x. Permitted x r) (sym a.at) permitted);

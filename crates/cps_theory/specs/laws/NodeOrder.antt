@@ -55,9 +55,8 @@ pub node_tie : (a b : PatternNode) → node_cmp a b ≡ Equal → a ≡ b
 node_tie a b e =
     let s = then_tie _ _ e in
     let t = then_tie _ _ s.1 in
-    let y = list_tie a.1 b.1 t.0 in
     let z = nat_tie a.2 b.2 t.1 in
-    whole a.0 b.0 a.1 b.1 a.2 b.2 (nat_tie a.0 b.0 s.0) y z
+    whole a.0 b.0 a.1 b.1 a.2 b.2 (nat_tie a.0 b.0 s.0) (list_tie a.1 b.1 t.0) z
   where
     whole : (i j : ℕ) (xs ys : List Bool) (m n : ℕ) → i ≡ j → xs ≡ ys → m ≡ n → pack i xs m ≡ pack j ys n
     whole i j xs ys m n e f h = rw (e, f, h) refl
@@ -82,17 +81,16 @@ module _ {S : Type 0} (node_of : S → PatternNode) (pairs_of : S → List Pair)
       → to_node w s ≡ Less
   before_equal s t w lt eq =
       let o = node_total in
-      let back = o.antisymm (node_of t) (node_of s) ∙ ap ordering_reverse lt in
       let same = o.congr (node_of t) w (node_of s) eq in
-      o.antisymm (node_of s) w ∙ ap ordering_reverse (sym same ∙ back)
+      o.antisymm (node_of s) w ∙ ap ordering_reverse
+      (sym same ∙ (o.antisymm (node_of t) (node_of s) ∙ ap ordering_reverse lt))
 
   -- a state after one that is at the place is after it
   after_equal : (s t : S) (w : PatternNode) → node_cmp (node_of s) (node_of t) ≡ Less → to_node w s ≡ Equal
       → to_node w t ≡ Greater
   after_equal s t w lt eq =
       let o = node_total in
-      let same = o.congr (node_of s) w (node_of t) eq in
-      o.antisymm (node_of t) w ∙ ap ordering_reverse (sym same ∙ lt)
+      o.antisymm (node_of t) w ∙ ap ordering_reverse (sym (o.congr (node_of s) w (node_of t) eq) ∙ lt)
 
   adjacent : (ss : List S) → InNodeOrder node_of pairs_of ss → (k : ℕ) (d : S) → k + 1 < length ss
       → is_lt (node_cmp (node_of (get_or ss (k + 1) d)) (node_of (get_or ss k d))) ≡ false
@@ -139,10 +137,9 @@ module _ {S : Type 0} (node_of : S → PatternNode) (pairs_of : S → List Pair)
   unfolding covers
   found_covers w q [] h i d lt e = absurd (omega arith)
   found_covers w q (s ∷ ss) h zero d lt e =
-      let rest : covers node_of pairs_of ss w q ≡ false =
-      none_covers w q ss (λ k f l. ap is_eq (after_equal s (get_or ss k f) w (head_below s ss h k f l) e)) in
-      let here : covers_at node_of pairs_of w q s ≡ list_any (λ o. no_worse o q) (pairs_of s) = rw (ap is_eq e) refl in
-      rw (rest, here) (or_false (list_any (λ o. no_worse o q) (pairs_of s)))
+      let rest = none_covers w q ss (λ k f l. ap is_eq (after_equal s _ w (head_below s ss h k f l) e)) in
+      let here : covers_at node_of pairs_of w q s ≡ list_any (λ o. no_worse o q) (pairs_of s) = cc in
+      rw (rest, here) (or_false _)
     where
       or_false : (b : Bool) → b || false ≡ b
       or_false true = refl

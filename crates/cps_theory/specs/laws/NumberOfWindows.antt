@@ -49,8 +49,7 @@ in_range : (m n x : ℕ) (ws : List (List ℕ)) → AllByRecursion (Sized m n) w
     → IsRank (m ^ n) x
 in_range m n x [] a i = absurd i
 in_range m n x (w ∷ ws) a (inl e) =
-    let s = ap (λ k. m ^ k) a.0.0 in
-    (omega (arith, e), omega (arith, e, as_number_below m w a.0.1, s))
+    (omega (arith, e), omega (arith, e, as_number_below m w a.0.1, ap (λ k. m ^ k) a.0.0))
 in_range m n x (w ∷ ws) a (inr i) = in_range m n x ws a.1 i
 
 length-numbers : (m : ℕ) (ws : List (List ℕ)) → length (map (λ x. suc (as_number m x)) ws) ≡ length ws

@@ -15,11 +15,11 @@ in_numbers i (suc n) x (inr m) = let a = in_numbers _ n x m in (omega (arith, a.
 pub numbers_in : (i n x : ℕ) → i ≤ x → x < i + n → In x (numbers_from i n)
 numbers_in i zero x le lt = absurd (omega arith)
 numbers_in i (suc n) x le lt =
-    elim (cases_eq x i) [ inl e ↦ inl e | inr ne ↦ inr (numbers_in (suc i) n x (omega arith) (omega arith)) ]
+    elim (cases_eq x i) [ inl e ↦ inl e | inr ne ↦ inr (numbers_in _ n x (omega arith) (omega arith)) ]
 
 pub distinct_numbers : (i n : ℕ) → Distinct (numbers_from i n)
 distinct_numbers i zero = tt
-distinct_numbers i (suc n) = (λ m. omega (arith, (in_numbers (suc i) n i m).0), distinct_numbers _ n)
+distinct_numbers i (suc n) = (λ m. omega (arith, (in_numbers _ n i m).0), distinct_numbers _ n)
 
 pub map_numbers : {X : Type 0} (f : ℕ → X) (i n : ℕ)
     → map f (numbers_from (suc i) n) ≡ map (λ j. f (suc j)) (numbers_from i n)
@@ -43,7 +43,7 @@ count_by_map p f xs = go xs ∙ sym (count_is _ xs)
   where
     go : (xs : List ℕ) → count_by p (map f xs) ≡ count (λ i. p (f i)) xs
     go [] = refl
-    go (x ∷ xs) = sum_by-cons _ (f x) (map f xs) ∙ ap (λ n. cond (p (f x)) 1 0 + n) (go xs)
+    go (x ∷ xs) = sum_by-cons _ _ (map f xs) ∙ ap (λ n. cond (p (f x)) 1 0 + n) (go xs)
 
 pub count_by_agree : (p q : ℕ → Bool) (xs : List ℕ) → ((x : ℕ) → In x xs → p x ≡ q x) → count_by p xs ≡ count_by q xs
 count_by_agree p q xs h = count_is p xs ∙ count_agree p q xs h ∙ sym (count_is q xs)

@@ -125,14 +125,13 @@ module _ (g : OrderRules) (ones : (a r : ℕ) → g.before a r ≡ true → 1 �
       high above =
           let no = lt-leb y _ above in
           let a = ap (λ b. b || (eqb (y - g.most) r || is_member (y - g.most) rs)) no in
-          a ∙ ap₂ ◌||◌ (same_eqb above) (sym (ap (λ c. c || is_member (y - g.most) rs) no) ∙ old)
+          a ∙ ap₂ ◌||◌ (same_eqb above) (sym (cc) ∙ old)
 
       deep : y ≤ g.most → pattern_digit g.most (r ∷ rs) y ≡ eqb y (r + g.most)
           || get_or (pattern_node g rs).1 (y - suc (length rs)) false
       deep below =
           let yes = le-leb y _ below in
-          let b = or_left _ _ yes in
-          (or_left _ _ yes) ∙ sym (or_right _ _ (sym old ∙ b))
+          (or_left _ _ yes) ∙ sym (or_right _ _ (sym old ∙ (or_left _ _ yes)))
 
   pub pattern_network : Network PatternNode (Legal g) (pattern_node g) (PatternPermits g)
       (pattern_push g) pattern_newest

@@ -55,7 +55,5 @@ module _ (g : OrderRules) where
   unfolding permits_next
   permits_is w r m =
       let late = le-leb _ _ m.not_late in
-      let preds = none_from _ 1 _ (λ y le lt. preds_is w r m y le) in
       and_from _ _ (and_from _ _ (and_from _ _ (and_from _ _ (le-leb r _ m.not_early) late) (not_placed w r m.is_new))
-      (due_is w r m))
-      (ap is_none preds)
+      (due_is w r m)) (ap is_none (none_from _ 1 _ (λ y le lt. preds_is w r m y le)))

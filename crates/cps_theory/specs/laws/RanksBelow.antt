@@ -19,14 +19,13 @@ ranks_folded step so_far more n = from n 0 1 n (omega arith) (omega arith)
 
 pub greatest_least : (t : ℕ → ℕ) (n m : ℕ) → ((r : ℕ) → IsRank n r → t r ≤ m) → greatest t n ≤ m
 greatest_least t zero m h = omega arith
-greatest_least t (suc n) m h = let a = greatest_least t n m (λ r q. h r (q.0, omega arith)) in omega arith
+greatest_least t (suc n) m h = omega (arith, greatest_least t n m (λ r q. h r (q.0, omega arith)))
 
 pub at_most_greatest : (t : ℕ → ℕ) (n r : ℕ) → IsRank n r → t r ≤ greatest t n
 at_most_greatest t zero r q = absurd (omega arith)
 at_most_greatest t (suc n) r q = elim (cases_eq r (suc n)) [
-  | inl e ↦ let s = ap t e in omega arith
-  | inr ne ↦ let a =
-      at_most_greatest t n r (q.0, omega arith) in omega arith
+  | inl e ↦ omega (arith, ap t e)
+  | inr ne ↦ let a = at_most_greatest t n r (q.0, omega arith) in omega arith
 ]
 
 pub in_upto : (n x : ℕ) → In x (upto n) → IsRank n x
@@ -41,10 +40,9 @@ length-upto (suc n) = ap suc (length-upto n)
 pub count_below : (n r : ℕ) → 1 ≤ r → r ≤ suc n → suc (count (λ q. ltb q r) (upto n)) ≡ r
 count_below zero r one le = omega arith
 count_below (suc n) r one le =
-    let ih = count_below n r one in
     elim (cases_eq r (suc (suc n))) [
       | inl e ↦ let a = count_length (λ q. ltb q r) (suc n ∷ upto n) (λ x i. let b =
           in_upto (suc n) x i in lt-ltb x r (omega arith)) in let c = length-upto n in omega arith
       | inr ne ↦ let a = ap (λ b. cond {A = ℕ} b 1 0) (le-ltb (suc n) r (omega arith)) in let b =
-          ih (omega arith) in omega arith
+          (count_below n r one) (omega arith) in omega arith
     ]

@@ -82,11 +82,10 @@ module _ (p : RankedProblem) (sound : SoundProblem p) (first : ℕ → ℕ → O
       ) in
       let low : (v : ℕ → ℕ) → Feasible p v → SameOrder n t v → (r : ℕ) → IsRank n r → u r ≤ v r = λ v fv sv r q.
       let rv = same_sorted n t v sv in
-      let lv = feasible_lands p v sound fv in
-      let ev = earliest_least _ _ _ opens (next_later p) _ lv.landed in
+      let ev = earliest_least _ _ _ opens (next_later p) _ (feasible_lands p v sound fv).landed in
       let isv = ap (earliest first (next_from p)) (rv ∙ sym (ranks_at v _)) ∙ ev.1 in
-      let eq = some_same xs _ (sym is ∙ isv) in
-      let nl = subst (λ z. NoLater z (at_seconds v (sorted v n))) (sym eq ∙ sym same) ev.2 in
+      let nl = subst (λ z. NoLater z (at_seconds v (sorted v n))) (sym (some_same xs _ (sym is ∙ isv)) ∙ sym same)
+      ev.2 in
       let nl' = subst (λ z. NoLater (at_seconds u rs) (at_seconds v z)) (sym rv) nl in
       no_later_at u v rs nl' r (in_sorted t n r q) in (
         u,
