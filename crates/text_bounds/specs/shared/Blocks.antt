@@ -20,18 +20,16 @@ word_short false = omega arith
 landing_short : (f : ShownLanding) → length f.callsign ≤ 8 → length (decimal f.second) ≤ 6
     → length (line (landing_words f)) ≤ 29
 landing_short f name second =
-    let a = length-append (decimal f.second) (frozen_word f.frozen) in
     let b = length-append f.callsign (codes " ") in
     let c = length-append (f.callsign ++ codes " ") (decimal f.second ++ frozen_word f.frozen) in
     let d = length-append (f.callsign ++ codes " " ++ (decimal f.second ++ frozen_word f.frozen)) (10 ∷ []) in
-    omega (arith, name, second, word_short f.frozen, a, b, c, d)
+    omega (arith, name, second, word_short f.frozen, length-append (decimal f.second) (frozen_word f.frozen), b, c, d)
 
 landings_short : (fs : List ShownLanding) → AreReadable fs → length (lines_text (map landing_words fs)) ≤ 29 * length fs
 landings_short [] h = omega arith
 landings_short (f ∷ fs) h =
-    let one = landing_short f (callsign_short _ h.0) (second_short _ h.1) in
     let both = length-append (line (landing_words f)) (lines_text (map landing_words fs)) in
-    omega (arith, one, landings_short fs h.2, both)
+    omega (arith, landing_short f (callsign_short _ h.0) (second_short _ h.1), landings_short fs h.2, both)
 
 objective_short : (o : Objective) → length (objective_word o) ≤ 9
 objective_short Makespan = omega arith
@@ -39,16 +37,14 @@ objective_short Delay = omega arith
 
 pub head_short : (o : Objective) (v : ℕ) → length (decimal v) ≤ 10 → length (line (head_words o v)) ≤ 20
 head_short o v value =
-    let a = length-append (objective_word o) (decimal v) in
     let b = length-append (head_words o v) (10 ∷ []) in
-    omega (arith, value, objective_short o, a, b)
+    omega (arith, value, objective_short o, length-append (objective_word o) (decimal v), b)
 
 pub block_short : (o : Objective) (p : ShownPlan) → IsReadable p
     → length (block_text o (Some p)) ≤ 20 + 29 * length p.landings
 block_short o p h =
-    let rest = landings_short p.landings h.landings in
     let both = length-append (line (head_words o p.value)) (lines_text (map landing_words p.landings)) in
-    omega (arith, head_short o p.value (value_short p.value h.value), rest, both)
+    omega (arith, head_short o p.value (value_short p.value h.value), landings_short p.landings h.landings, both)
 
 pub plan_short : ShownPlanIsReadableLaw → BlockIsBoundedLaw
 plan_short law state sound = go _ refl

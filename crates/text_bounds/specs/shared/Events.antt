@@ -13,8 +13,7 @@ use Rattle.arrivals.specs.Seen.{event_of}
 use Rattle.csv_records.specs.Rows.{Fields, field}
 use Rattle.event_log.specs.declared.fault.Col.TheVariants as columns
 use Rattle.event_log.specs.declared.fault.LogCause.{LogCause}
-use Rattle.event_log.specs.declared.fault.LogCause.TheVariants.{TooMany}
-use Rattle.event_log.specs.Columns.{callsign_in, category_in, column, empty_in, names_at, second_in, span_at, weight_in}
+use Rattle.event_log.specs.Columns.{callsign_in, category_in, column, empty_in, names_at, second_in, weight_in}
 use Rattle.event_log.specs.Columns.{windows_at}
 use Rattle.event_log.specs.Kinds.{add_in, cancel_in, clock_in, close_in, estimate_in, event_by, reopen_in}
 use Rattle.event_log.specs.Reading.{added, event_in, events_by, events_in, events_of, is_header}
@@ -80,29 +79,29 @@ cancel_named r =
 add_named : (r : Fields) → IfOk (add_in r) IsNamed
 unfolding add_in
 add_named r =
-    follows (callsign_in r) _ (λ a. follows (category_in r) _ (λ b. follows _ _ (λ c. follows (weight_in r) _ (λ d.
+    follows _ _ (λ a. follows (category_in r) _ (λ b. follows _ _ (λ c. follows (weight_in r) _ (λ d.
     follows _ _ (λ e. follows (names_at a r) _ (λ f. tt))))))
 
 close_named : (r : Fields) → IfOk (close_in r) IsNamed
 unfolding close_in
 close_named r =
     follows _ _ (λ a. follows (empty_in columns.Category r) _ (λ b.
-    follows (empty_in columns.Eta r) _ (λ c. follows (empty_in columns.Weight r) _ (λ d.
-    follows (span_at r) _ (λ e. follows (empty_in columns.After r) _ (λ f. tt))))))
+    follows _ _ (λ c. follows (empty_in columns.Weight r) _ (λ d.
+    follows _ _ (λ e. follows (empty_in columns.After r) _ (λ f. tt))))))
 
 reopen_named : (r : Fields) → IfOk (reopen_in r) IsNamed
 unfolding reopen_in
 reopen_named r =
     follows _ _ (λ a. follows (empty_in columns.Category r) _ (λ b.
-    follows (empty_in columns.Eta r) _ (λ c. follows (empty_in columns.Weight r) _ (λ d.
-    follows (span_at r) _ (λ e. follows (empty_in columns.After r) _ (λ f. tt))))))
+    follows _ _ (λ c. follows (empty_in columns.Weight r) _ (λ d.
+    follows _ _ (λ e. follows (empty_in columns.After r) _ (λ f. tt))))))
 
 clock_named : (r : Fields) → IfOk (clock_in r) IsNamed
 unfolding clock_in
 clock_named r =
     follows _ _ (λ a. follows (empty_in columns.Category r) _ (λ b.
-    follows (second_in r) _ (λ c. follows (empty_in columns.Weight r) _ (λ d.
-    follows (empty_in columns.Windows r) _ (λ e. follows (empty_in columns.After r) _ (λ f. tt))))))
+    follows _ _ (λ c. follows (empty_in columns.Weight r) _ (λ d.
+    follows _ _ (λ e. follows (empty_in columns.After r) _ (λ f. tt))))))
 
 kind_named : (kind : List ℕ) (r : Fields) → IfOk (event_by kind r) IsNamed
 unfolding event_by
@@ -116,9 +115,8 @@ kind_named kind r =
 
 record_named : (n : ℕ) (r : Fields) → IfOk (event_in n r) IsNamed
 unfolding event_in
-record_named n r = by_cond _ (not (length r == 7)) _ _ tt
-    (then_ok _ _ (event_by (field r 0) r) _ (kind_named (field r 0) r)
-    (λ e named. by_cond _ (nat_le most_events n) (Err TooMany) _ tt named))
+record_named n r = by_cond _ (not (length r == 7)) _ _ tt (then_ok _ _ (event_by (field r 0) r) _ (kind_named _ r)
+    (λ e named. by_cond _ (nat_le most_events n) _ _ tt named))
 
 added_named : (before : List log.Event) (x : Result log.Event LogCause) → All IsNamed before → IfOk x IsNamed
     → IfOk (added before x) (All IsNamed)
@@ -158,10 +156,9 @@ cause_short (Frozen t) h = omega (arith, second_short t h)
 cause_short (Duplicate c) h = omega (arith, h)
 cause_short (PredecessorOfFrozen c) h = omega (arith, h)
 cause_short (CoversFrozen c t) h =
-    let b = length-append c (codes " ") in
     let d = length-append (c ++ codes " ") (decimal t) in
     let e = h.0 in
-    omega (arith, second_short t h.1, b, d, e)
+    omega (arith, second_short t h.1, length-append c (codes " "), d, e)
 cause_short (ClockBack t) h = omega (arith, second_short t h)
 cause_short r h = omega arith
 
@@ -172,17 +169,16 @@ module _ (s : Situation) (sound : IsSound s) where
   -- a frozen flight's second is open
   pub frozen_second : (a : Active) (t : ℕ) → Member a s.active → a.frozen ≡ Some t → t ≤ last_second
   frozen_second a t m e =
-      let f = frozen_in _ a t m e in
       let good = all_at (λ (b : Active). IsGoodFlight b.flight) _ sound.flights a m in
       open_in_days _ _ t good.windows.spans
-      (all_at (λ (x : Landing). IsTrue (is_open x.flight.windows s.closures x.second)) _ sound.frozen_open _ f)
+      (all_at (λ (x : Landing). IsTrue (is_open x.flight.windows s.closures x.second)) _ sound.frozen_open _
+      (frozen_in _ a t m e))
 
   of_frozen : (g : Landing) → Member g (frozen_landings s) → (length g.flight.callsign ≤ 8) × (g.second ≤ last_second)
   of_frozen g m =
       let f = in_frozen _ g m in
-      let name = active_name f.0 f.2 in
       let same : g ≡ landing f.0 f.1 = f.4 in
-      (rw same name, rw same (frozen_second f.0 f.1 f.2 f.3))
+      (rw same (active_name f.0 f.2), rw same (frozen_second f.0 f.1 f.2 f.3))
 
   unknown_short : (c : List ℕ) (r : Refusal) → length c ≤ 8 → unknown_or_frozen c (find (named c) s.active) ≡ Some r
       → IsShort r
@@ -216,8 +212,7 @@ module _ (s : Situation) (sound : IsSound s) where
         | inl there ↦ (let w : Some (Duplicate f.callsign) ≡ Some r = rw there at is in
             let v : Duplicate f.callsign ≡ r = cc in subst IsShort v (callsign_short _ good.callsign))
         | inr new ↦ elim (cases_Bool (nat_le most_flights (length s.active))) [
-          | inl full ↦ (let w : Some TooManyFlights ≡ Some r = rw (new, full) at is in let v : TooManyFlights ≡ r =
-              cc in subst IsShort v tt)
+          | inl full ↦ (let v : TooManyFlights ≡ r = cc in subst IsShort v tt)
           | inr fits ↦ elim (cases_Bool (nat_le most_waiting (length (waiting s)))) [
             | inl full ↦ (let v : TooManyWaiting ≡ r = cc in subst IsShort v tt)
             | inr few ↦ preceding_short _ r (rw (new, fits, few) at is)

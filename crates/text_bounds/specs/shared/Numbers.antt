@@ -18,8 +18,7 @@ within text least most n e = elim (cases_Bool (is_number text)) [
     | inr reaches ↦ elim (cases_Bool (nat_lt most (digits_value 10 text))) [
       | inl above ↦ absurd (cc (rw (digits, reaches, above) at e))
       | inr fits ↦
-          (let w : Ok (digits_value 10 text) ≡ Ok n = rw (digits, reaches, fits) at e in
-          let same : digits_value 10 text ≡ n = cc in
+          (let same : digits_value 10 text ≡ n = cc in
           (grind (arith, nat_tests, reaches, same), grind (arith, nat_tests, fits, same)))
     ]
   ]

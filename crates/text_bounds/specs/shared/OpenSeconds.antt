@@ -24,9 +24,7 @@ below_on (w ∷ ws) t u le = omega (arith, below_on ws t u le, le)
 
 below_all : (ws : List Span) (t : ℕ) → below ws t ≤ seconds_of ws
 below_all [] t = omega arith
-below_all (w ∷ ws) t =
-    let all = sum_by-cons (λ (x : Span). x.1 + 1 - x.0) w ws in
-    omega (arith, below_all ws t, all)
+below_all (w ∷ ws) t = omega (arith, below_all ws t, sum_by-cons (λ (x : Span). x.1 + 1 - x.0) w ws)
 
 inside : (t : ℕ) (w : Span) → is_within t w ≡ true → (w.0 ≤ t) × (t ≤ w.1)
 inside t w e =
@@ -38,9 +36,8 @@ below_more [] t u e lt = absurd (cc e)
 below_more (w ∷ ws) t u e lt = elim (cases_Bool _) [
   | inl here ↦
       let at = inside t w here in
-      let last = at.1 in
       let rest = below_on ws t u (omega (arith, lt)) in
-      omega (arith, at.0, last, rest, lt)
+      omega (arith, at.0, at.1, rest, lt)
   | inr other ↦
       let there : list_any (is_within t) ws ≡ true = rw other at e in
       omega (arith, below_more ws t u there lt, lt)
@@ -56,10 +53,8 @@ pairs_few ws (p ∷ ps) up each = omega (arith, go p ps up each)
         → ((q : Pair) → InPairs q (p ∷ ps) → list_any (is_within q.0) ws ≡ true)
         → below ws p.0 + length (p ∷ ps) ≤ seconds_of ws
     go p [] up each =
-        let all = below_all ws (p.0 + 1) in
-        omega (arith, below_more ws p.0 (p.0 + 1) (each p (inl refl)) (omega arith), all)
+        omega (arith, below_more ws p.0 (p.0 + 1) (each p (inl refl)) (omega arith), below_all ws (p.0 + 1))
     go p (q ∷ ps) up each =
         let both = and_parts (nat_lt p.0 q.0 && nat_lt q.1 p.1) (rises (q ∷ ps)) up in
         let lt : p.0 < q.0 = grind (arith, nat_tests, (and_parts (nat_lt p.0 q.0) (nat_lt q.1 p.1) both.0).0) in
-        let rest = go q ps both.1 (λ r i. each r (inr i)) in
-        omega (arith, below_more ws p.0 q.0 (each p (inl refl)) lt, rest)
+        omega (arith, below_more ws p.0 q.0 (each p (inl refl)) lt, go q ps both.1 (λ r i. each r (inr i)))

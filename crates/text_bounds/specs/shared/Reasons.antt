@@ -20,9 +20,9 @@ use Rattle.cert_check.specs.declared.verdict.Reason.TheVariants.{Closed, Early, 
 use Rattle.cert_check.specs.declared.verdict.Reason.TheVariants.{Shape, Shift, Successor, Value}
 use Rattle.cert_check.specs.declared.verdict.Verdict.{Verdict}
 use Rattle.cert_check.specs.declared.verdict.Verdict.TheVariants as verdict
-use Rattle.cert_check.specs.Landings.{Landings, are_not_flights, count, first_out_of_order, first_too_close, is_early}
-use Rattle.cert_check.specs.Landings.{is_shifted, second_of, seconds}
-use Rattle.cert_check.specs.States.{final_failure, is_misshapen, missed_from}
+use Rattle.cert_check.specs.Landings.{Landings, are_not_flights, count, first_out_of_order, first_too_close}
+use Rattle.cert_check.specs.Landings.{second_of, seconds}
+use Rattle.cert_check.specs.States.{final_failure, missed_from}
 use Rattle.cert_check.specs.States.{successor_failure}
 use Rattle.cert_check.specs.Verdict.{claim_reason, failure, flights_reason, landing_reason, state_reason, value_reason}
 use Rattle.cert_check.specs.Verdict.{verdict_by, verdict_of, with_pair}
@@ -88,7 +88,7 @@ pairs_found : (find : ℕ → Option ℕ) (x m a b : ℕ) → x + m ≤ a + 1 �
 pairs_found find x zero a b le h = tt
 pairs_found find x (suc m) a b le h =
     or_found (AreBelow a b) _ _
-    (number_found x (find x) a b (omega (arith, le)) (h x)) (pairs_found find (suc x) m a b (omega (arith, le)) h)
+    (number_found x _ a b (omega (arith, le)) (h x)) (pairs_found _ (suc x) m a b (omega (arith, le)) h)
 
 element_found : {S : Type 0} (test : S → Bool) (i most : ℕ) (ss : List S) → i + length ss ≤ most + 1
     → IfFound (λ y. y ≤ most) (element_from test i ss)
@@ -129,18 +129,13 @@ module _ (p : Problem) (well : IsWellFormed p) where
   landing_found : (v : ℕ) (ls : Landings) → AreLandings ls → IfFound HasSmallNumbers (landing_reason p v ls)
   unfolding landing_reason
   landing_found v ls h =
-      or_found HasSmallNumbers _ _ (map_found Few HasSmallNumbers _ _ (λ r le. le) (ranks_found _))
-      (or_found HasSmallNumbers _ _ (map_found Few HasSmallNumbers _ _ (λ r le. le) (ranks_found (is_early p ls)))
-      (or_found HasSmallNumbers _ _ (pair_found (AreBelow most_waiting most_waiting) HasSmallNumbers _
-      (first_pair_from (first_too_close p ls) 1 (count p)) (λ x le. le)
-      (pairs_found (first_too_close p ls) 1 _ _ _ (let few =
-      well.few_flights in omega (arith, few)) (λ r. ranks_found _)))
-      (or_found HasSmallNumbers _ _ (pair_found (AreBelow most_waiting most_waiting) _ _
+      or_found HasSmallNumbers _ _ (map_found Few _ _ _ (λ r le. le) (ranks_found _))
+      (or_found HasSmallNumbers _ _ (map_found Few _ _ _ (λ r le. le) (ranks_found _))
+      (or_found HasSmallNumbers _ _ (pair_found _ _ _ (first_pair_from (first_too_close p ls) 1 (count p)) (λ x le. le)
+      (pairs_found _ 1 _ _ _ (omega arith) (λ r. ranks_found _))) (or_found HasSmallNumbers _ _ (pair_found _ _ _
       (first_pair_from (first_out_of_order p ls) 1 (count p)) (λ x le. le)
-      (pairs_found (first_out_of_order p ls) 1 _ _ _ (let few =
-      well.few_flights in omega (arith, few)) (λ r. ranks_found _)))
-      (or_found HasSmallNumbers _ _ (map_found Few _ _ _ (λ r le. le) (ranks_found (is_shifted p ls)))
-      (value_found v ls h)))))
+      (pairs_found _ 1 _ _ _ (omega arith) (λ r. ranks_found _)))
+      (or_found HasSmallNumbers _ _ (map_found Few _ _ _ (λ r le. le) (ranks_found _)) (value_found v ls h)))))
 
   module _ (c : Claim) (ss : List State) (few : length ss < most_states) where
     missed_found : (i : ℕ) (rest : List State) → i + length rest ≤ most_states + 1
@@ -167,9 +162,8 @@ module _ (p : Problem) (well : IsWellFormed p) where
     state_found : IfFound HasSmallNumbers (state_reason p c ss)
     unfolding state_reason
     state_found =
-        or_found HasSmallNumbers _ _ (map_found (λ y. y ≤ most_states) HasSmallNumbers _ _
-        (λ i le. le) (element_found (is_misshapen p) 1 _ ss (omega (arith, few))))
-        (or_found HasSmallNumbers _ _ (pair_found (AreBelow most_states most_waiting) _ _
+        or_found HasSmallNumbers _ _ (map_found (λ y. y ≤ most_states) _ _ _
+        (λ i le. le) (element_found _ 1 _ ss (omega (arith, few)))) (or_found HasSmallNumbers _ _ (pair_found _ _ _
         (successor_failure p ss) (λ x le. le) successor_found)
         (map_found (λ y. y ≤ most_states) _ _ _ (λ i le. le) (final_found c)))
 

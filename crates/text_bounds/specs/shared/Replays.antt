@@ -20,30 +20,26 @@ use Rattle.text_bounds.specs.shared.Events.{refusal_short}
 
 accepted_short : (i : ℕ) → i < 10000 → length (line (accepted_words i)) ≤ 20
 accepted_short i few =
-    let a = length-append (decimal i) (codes " accepted") in
     let b = length-append (decimal i ++ codes " accepted") (10 ∷ []) in
-    omega (arith, number_short i few, a, b)
+    omega (arith, number_short i few, length-append (decimal i) (codes " accepted"), b)
 
 pub refused_short : (i : ℕ) (r : Refusal) → i < 10000 → length (cause r) ≤ 30 → length (line (refused_words i r)) ≤ 50
 refused_short i r few short =
-    let a = length-append (decimal i) (codes " refused ") in
     let b = length-append (decimal i ++ codes " refused ") (cause r) in
     let c = length-append (decimal i ++ codes " refused " ++ cause r) (10 ∷ []) in
-    omega (arith, number_short i few, short, a, b, c)
+    omega (arith, number_short i few, short, length-append (decimal i) (codes " refused "), b, c)
 
 module _ (law : BlockIsBoundedLaw) where
   answer_accepted : (i : ℕ) (state : State) → i < 10000 → IsSoundState state
       → length (answer_text i None state) ≤ answer_bound (length state.situation.active)
   answer_accepted i state few sound =
-      let head = accepted_short i few in
       let both = length-append (line (accepted_words i)) (lines_text (plan_lines state)) in
-      omega (arith, head, law state sound, both)
+      omega (arith, accepted_short i few, law state sound, both)
 
   answer_refused : (i : ℕ) (r : Refusal) (state : State) → i < 10000 → length (cause r) ≤ 30
       → length (answer_text i (Some r) state) ≤ 50
   answer_refused i r state few short =
-      let one = refused_short i r few short in
-      omega (arith, one, length-append (line (refused_words i r)) [])
+      omega (arith, refused_short i r few short, length-append (line (refused_words i r)) [])
 
   begun_short : (state : State) → IsSoundState state
       → length (begun_text state) ≤ answer_bound (length state.situation.active)
@@ -62,8 +58,12 @@ one_more : (s : Situation) (plan : Option Schedule) (e : Event)
     → length (situation_after s plan e).active ≤ length s.active + 1
 one_more s plan (Estimate c eta windows) = omega (arith, length-map s.active (estimated c eta windows))
 one_more s plan (Cancel c) =
-    let b = count_by-le-length (λ (x : Active). not (named c x)) s.active in
-    omega (arith, length-filter (λ (x : Active). not (named c x)) s.active, b)
+    omega (
+      arith,
+      length-filter (λ (x : Active). not (named c x)) s.active,
+      count_by-le-length
+          (λ (x : Active). not (named c x)) s.active,
+    )
 one_more s plan (Add f) = let a =
     length-append s.active (record { flight = f; frozen = None; passed = 0 } ∷ []) in omega (arith, a)
 one_more s plan (Clock now) = omega (arith, length-clocked s plan (now + s.aerodrome.freeze))
@@ -96,7 +96,7 @@ module _ (law : BlockIsBoundedLaw) (keeps : StepKeepsSoundLaw) where
       clock = subst (λ (s : Situation). IsInDays s.clock) (sym step.effect.changed)
           (clock_kept old.situation old.plan e h.clock good);
     },
-    rw step.effect.changed (one_more old.situation old.plan e),
+    rw step.effect.changed (one_more _ _ e),
   )
   next_tellable old new e (Some r) h good step = (rw step.effect h, rw step.effect (omega arith))
 
@@ -111,10 +111,9 @@ module _ (law : BlockIsBoundedLaw) (keeps : StepKeepsSoundLaw) where
       let own = All-head IsGoodEvent e _ good in
       let next = next_tellable old _ e _ h own run.0 in
       let more = next.1 in
-      let full = next.0.sound.situation.few_active in
       let one = step_short old a.state e a.answer i (min most_flights m) h own (All-head HasShortName e events names)
       (omega (arith, few)) run.0 (omega (arith, most, h.sound.situation.few_active))
-      (omega (arith, most, more, full)) in
+      (omega (arith, most, more, next.0.sound.situation.few_active)) in
       let rest = answers_short _ events _ (i + 1) m next.0 (All-tail IsGoodEvent e _ good)
       (All-tail HasShortName e _ names) (omega (arith, few)) (omega (arith, most, more)) run.1 in
       let both = length-append (answer_text i a.answer a.state) (answers_text (i + 1) answers) in
@@ -123,8 +122,7 @@ module _ (law : BlockIsBoundedLaw) (keeps : StepKeepsSoundLaw) where
   pub replay_short : ReplayIsBoundedLaw
   replay_short opening events answers h good names few run =
       let n = length opening.situation.active in
-      let full = h.sound.situation.few_active in
       let answers_are = answers_short opening events answers 1 (n + length events) h good names
       (omega (arith, few)) (omega arith) run in
       let both = length-append (begun_text opening) (answers_text 1 answers) in
-      omega (arith, begun_short law opening h.sound, answers_are, both, full)
+      omega (arith, begun_short law opening h.sound, answers_are, both, h.sound.situation.few_active)

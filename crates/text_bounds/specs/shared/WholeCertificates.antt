@@ -1,5 +1,5 @@
 -- How long a certificate is that leaves nothing out: by its landings, its states and their pairs.
-use Rattle.std.proofs.Common.{◌≡◌, ℕ, zero, suc, ◌≤◌, inl, inr, List, [], ◌∷◌, length, get_or, true, refl, sym, ap}
+use Rattle.std.proofs.Common.{◌≡◌, ℕ, zero, suc, ◌≤◌, inl, inr, List, [], ◌∷◌, length, true, refl, sym, ap}
 use Rattle.std.proofs.Common.{◌∙◌, arith}
 use Rattle.std.specs.Prelude.{All, not}
 use Rattle.std.specs.List.{AllZip, list_any}
@@ -34,7 +34,7 @@ use Rattle.text_bounds.specs.shared.OpenSeconds.{pairs_few, seconds_of}
 
 as_many_landings : (p : Problem) (claimed : Claim) (ls : Landings) → IsAnswered p claimed ls → length ls ≤ count p
 as_many_landings p (claim.Optimal v) ls h = omega arith
-as_many_landings p claim.Infeasible ls h = let e = ap length h.0 in omega (arith, e)
+as_many_landings p claim.Infeasible ls h = omega (arith, ap length h.0)
 
 -- ---- the open seconds of each waiting flight
 
@@ -48,8 +48,7 @@ rank_permutes active = sort_moves _ insert_by_rank (λ a. refl) (λ a b bs. refl
 few_by_rank : (s : Situation) → IsSound s → All HasFewSeconds (by_rank (waiting s))
 few_by_rank s sound =
     let all : All HasFewSeconds s.active = λ i a lt. (sound.flights i a lt).windows.seconds in
-    let waits = All-filter _ HasFewSeconds _ all in
-    all_from _ _ (λ a m. all_at HasFewSeconds _ waits a (member_permutation _ _ a
+    all_from _ _ (λ a m. all_at HasFewSeconds _ (All-filter _ HasFewSeconds _ all) a (member_permutation _ _ a
     (IsPermutation-sym (waiting s) (by_rank (waiting s)) (rank_permutes _)) m))
 
 -- pairs at such seconds are few
@@ -63,7 +62,7 @@ module _ (closures : List Span) where
       let inside : (q : Pair) → InPairs q ps → list_any (is_within q.0) a.flight.windows ≡ true = λ q i.
       (and_parts (list_any (is_within q.0) a.flight.windows) (not (list_any (is_shut q.0) closures))
       (sym (of.open_spans.same q.0) ∙ each q i)).0 in
-      omega (arith, pairs_few a.flight.windows ps up inside, few)
+      omega (arith, pairs_few _ ps up inside, few)
 
   few_each : (active : List Active) (ws : List Waiting) → AllZip (IsWaitingOf closures) active ws
       → All HasFewSeconds active → All HasFewPairs ws
@@ -82,7 +81,7 @@ few_at : (ws : List Waiting) (r : ℕ) → All HasFewPairs ws → HasFewPairs (o
 few_at ws zero h = no_pairs
 few_at ws (suc i) h = elim (cases_lt i (length ws)) [
   | inl within ↦ h i no_waiting within
-  | inr past ↦ rw (get_or_past ws i no_waiting past) no_pairs
+  | inr past ↦ rw (get_or_past ws i _ past) no_pairs
 ]
 
 -- ---- all states
@@ -98,11 +97,10 @@ whole_short bound states single seconds s p c sound of well form whole =
     let m = most_pairs p.objective in
     let few = few_each _ _ _ of.flights (few_by_rank s sound) in
     let count = states p c.states well whole.states in
-    let pairs = sum_by-le (λ (x : State). length x.pairs) m c.states
-    (λ i x lt. pairs_by p.objective p (get_or c.states i x) refl single seconds few (whole.states.each i x lt)) in
-    let more = mul-le-mul_right m count in
+    let pairs = sum_by-le (λ (x : State). length x.pairs) m _
+    (λ i x lt. pairs_by _ p _ refl single seconds few (whole.states.each i x lt)) in
     let text = bound c form in
-    omega (arith, as_many_landings p c.claim c.landings whole.answer, count, pairs, more, text)
+    omega (arith, as_many_landings p c.claim c.landings whole.answer, count, pairs, mul-le-mul_right m count, text)
 
 pub loadable_short : LoadableIsShortLaw
 loadable_short Makespan zero n h = omega arith
