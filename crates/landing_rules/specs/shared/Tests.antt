@@ -1,5 +1,5 @@
 -- Each test answers whether its fact holds.
-use Rattle.std.proofs.Common.{◌≡◌, ℕ, ◌<◌, ◌≤◌, Bool, true, false, ◌||◌, not, List, length, refl, sym, arith}
+use Rattle.std.proofs.Common.{◌≡◌, ℕ, ◌+◌, ◌<◌, ◌≤◌, Bool, true, false, ◌||◌, not, List, length, refl, sym, arith}
 use Rattle.std.proofs.Common.{leb, Some, None, Option}
 use Rattle.std.specs.Prelude.{All, MatchOption, ◌≢◌, filter, IsTrue}
 use Rattle.std.specs.Bool.{Decides}
@@ -8,7 +8,7 @@ use Rattle.std.proofs.lemmas.Bool.{leb-true, le-leb, true≢false}
 use Rattle.std.proofs.lemmas.Bool.Decides.{Decides-eqb, Decides-and, Decides-like, Decides-by_and, Decides-ltb}
 use Rattle.std.proofs.lemmas.Slice.Eq.{bytes_eq-Decides}
 use Rattle.landing_rules.specs.Flights.{Situation, Schedule, Landing, horizon}
-use Rattle.landing_rules.specs.Rules.{ArePairSeparated}
+use Rattle.landing_rules.specs.Rules.{rank_among, place, ArePairSeparated}
 use Rattle.landing_rules.specs.Rules.{IsPairInPrecedence, IsShiftKept, IsFrozenKept, KeepsRules, IsFeasible}
 use Rattle.landing_rules.specs.Testing.{is_pair_separated, is_pair_in_precedence, is_shift_kept, keeps_frozen}
 use Rattle.landing_rules.specs.Testing.{for_each_pair, keeps_rules, is_feasible}
@@ -55,7 +55,8 @@ is_pair_in_precedence-Decides f g = Decides-implies _ _ _ _ (itself _) (Decides-
 
 pub is_shift_kept-Decides : (k : ℕ) (all : List Landing) (f : Landing)
     → Decides (is_shift_kept k all f) (IsShiftKept k all f)
-is_shift_kept-Decides k all f = Decides-and _ _ (leb-Decides _ _) (leb-Decides _ _)
+is_shift_kept-Decides k all f = Decides-and _ _ (leb-Decides (rank_among all f) (place all f + k))
+    (leb-Decides (place all f + f.passed) (rank_among all f + k))
 
 keeps_frozen-Decides : (h second : ℕ) (frozen : Option ℕ)
     → Decides (keeps_frozen h second frozen) (MatchOption frozen (h ≤ second) (λ t. second ≡ t))
