@@ -46,8 +46,7 @@ map_insert : (all : List Active) (i : ℕ) (js : List ℕ)
     → map (numbered all) (insert_number all i js) ≡ lists'.insert_by_rank (numbered all i) (map (numbered all) js)
 map_insert all i [] = refl
 map_insert all i (j ∷ js) = elim (cases_Bool (earlier all j i)) [
-  | inl e ↦
-      rw e (ap (λ l. numbered all j ∷ l) (map_insert all i js))
+  | inl e ↦ rw e (ap (λ l. numbered all j ∷ l) (map_insert all i js))
   | inr e ↦ rw e
 ]
 

@@ -132,8 +132,7 @@ module _ (s : Situation) (sound : IsSound s) (t : Schedule) (f : IsFeasible s t)
       let e =
       ap (λ l. numbered l i) after_is ∙ numbers_get _ _ 0
       (length s.active) i (omega (arith, (in_numbers 0 _ i m).1)) ∙ ap
-      (λ j. after_clock s.aerodrome h all (landing_at s.active t j))
-      (omega arith) in
+      (λ j. after_clock s.aerodrome h all (landing_at s.active t j)) (omega arith) in
       rw e (froze _ _ _ _ _ _ _)
 
   -- those that wait after it are those that stay
@@ -176,8 +175,7 @@ module _ (s : Situation) (sound : IsSound s) (t : Schedule) (f : IsFeasible s t)
     | inl w ↦
         (let gone = ap is_none e in (
           some_same u _ (sym e ∙ (at_after i m).second gone w),
-          ltb-true _ h
-              (early _ _ w (sym gone ∙ (at_after i m).waits)),
+          ltb-true _ h (early _ _ w (sym gone ∙ (at_after i m).waits)),
         ))
     | inr w ↦
         (let j = filter_in _ i _ m (ap not w) in

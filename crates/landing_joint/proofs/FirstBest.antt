@@ -44,8 +44,7 @@ order_insert : (all : List Active) (t : Schedule) (i : ℕ) (js : List ℕ)
     (insert_by (second_of t) i js)
 order_insert all t i [] = refl
 order_insert all t i (j ∷ js) = elim (cases_Bool (nat_lt (second_of t j) (second_of t i))) [
-  | inl e ↦
-      rw e (ap (λ l. landing_at all t j ∷ l) (order_insert all t i js))
+  | inl e ↦ rw e (ap (λ l. landing_at all t j ∷ l) (order_insert all t i js))
   | inr e ↦ rw e
 ]
 

@@ -105,7 +105,6 @@ module _ (s : Situation) (sound : IsSound s) (p : lists'.Problem) (of : lists'.I
     feasible = list_gives_schedule s sound p of v t.feasible;
     earliest = λ u f o.
         let w = schedule_gives_list s sound p of u f in
-        subst (λ x. AllZip (λ a b. a ≤ b) (joined s v) x) (sym w.2)
-        (earlier_kept v w.0 t.feasible.one_each
+        subst (λ x. AllZip (λ a b. a ≤ b) (joined s v) x) (sym w.2) (earlier_kept v w.0 t.feasible.one_each
         (t.earliest w.0 w.1 (order_kept v w.0 t.feasible.one_each (subst (λ x. HaveSameOrder (joined s v) x) w.2 o))));
   }

@@ -175,8 +175,7 @@ module _ (s : Situation) (sound : IsSound s) (t : Schedule) (ok : IsFeasible s t
           let x = at_number y m in
           let a = flight_at _ i n.stays refl ∙ ap (λ (b : Active). b.flight) (sym n.was) in
           let not_behind = behind_are x.0 (waited x.0 x.1) ∙ ap₂ (λ p q. is_lt (arrival_cmp p q)) (sym a)
-          (sym (flight_at y x.0 x.1 x.2))
-          ∙ ahead in
+          (sym (flight_at y x.0 x.1 x.2)) ∙ ahead in
           let few = counted_numbers g i n.stays least_numbers x.0 x.1 not_behind in
           let p = passing_are i n in
           let e = ap (λ (z : Active). z.passed) x.2 in

@@ -50,8 +50,7 @@ sum_parts g p [] = omega arith
 sum_parts g p (x ∷ xs) = let h = sum_parts g p xs in
     elim (cases_Bool (p x)) [
       | inl e ↦ rw e (omega (arith, sum_by-cons g))
-      | inr e ↦
-          rw e (omega (arith, sum_by-cons g))
+      | inr e ↦ rw e (omega (arith, sum_by-cons g))
     ]
 
 filter_numbers : (p : ℕ → Bool) (b n : ℕ) → filter p (numbers_from (suc b) n) ≡ map suc
@@ -181,8 +180,7 @@ module _ (s : Situation) (sound : IsSound s) (p : lists'.Problem) (of : lists'.I
       w.1,
       ap₂ (λ t o. after_last t o (fl r).category) of.table (of.last ∙ w.2)
           ∙ ap (λ (c : Category). ns.frozen_at w.0 + separation s.aerodrome.table
-          (numbered s.active w.0).flight.category c)
-          (category_is r),
+          (numbered s.active w.0).flight.category c) (category_is r),
       w.3,
     )
   ]

@@ -147,8 +147,7 @@ module _ (p : lists'.Problem) (sound : SoundProblem (ranked p)) (passed : (r : â
           last = (r, t);
           before = xs;
           legal = c.legal;
-          landed =
-              landed_more xs r t d c.lands;
+          landed = landed_more xs r t d c.lands;
           at = (net p sound).pushes r (ranks xs) l;
           keeps = c.kept;
         },

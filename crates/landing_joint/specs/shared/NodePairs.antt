@@ -72,8 +72,7 @@ module _ (p : Problem) (sound : SoundProblem (ranked p)) where
     landings = c.landings;
     legal = c.legal;
     landed = c.landed;
-    at =
-        one_pattern (ranks c.landings) rs c.one_node;
+    at = one_pattern (ranks c.landings) rs c.one_node;
     by = c.by;
   }
 
@@ -83,8 +82,7 @@ module _ (p : Problem) (sound : SoundProblem (ranked p)) where
     landings = c.landings;
     legal = c.legal;
     landed = c.landed;
-    one_node =
-        pattern_one (ranks c.landings) rs c.legal l c.at;
+    one_node = pattern_one (ranks c.landings) rs c.legal l c.at;
     by = c.by;
   }
 
@@ -124,8 +122,7 @@ module _ (p : Problem) (sound : SoundProblem (ranked p)) where
           opened = c.opened;
           reached = reached_by rs q.0 c.reached;
           low = c.low;
-          rest =
-              c.rest;
+          rest = c.rest;
           follows = ends_follows rs q.0 c.rest l c.ends;
           cost_is = c.cost_is;
         }
@@ -137,8 +134,7 @@ module _ (p : Problem) (sound : SoundProblem (ranked p)) where
           opened = c.opened;
           reached = by_reached rs q.0 l c.reached;
           low = c.low;
-          rest =
-              c.rest;
+          rest = c.rest;
           ends = follows_ends rs q.0 c.rest l c.follows;
           cost_is = c.cost_is;
         }
