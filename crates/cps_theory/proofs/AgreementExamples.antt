@@ -32,4 +32,4 @@ agree_below_three = record {
 
 same_landings : SameLandings 3 (λ r t. 1000 ≤ t) (λ r t. 1000 ≤ t) (λ l t r. t + 60) (λ l t r. t + 60)
     (λ r t. t) (λ r t. t)
-same_landings = record { same_open = λ r t lt o. o; same_after = λ l t r ll lr. refl; same_cost = λ r t lt. refl }
+same_landings = omega arith

@@ -1,6 +1,6 @@
 -- Examples of landings: lists of ranks, separation, retiming, landing trails and pairs.
-use Rattle.std.proofs.Common.{◌≡◌, ℕ, ◌+◌, ◌-◌, ◌≤◌, inl, inr, List, [], ◌∷◌, true, false, Option, Some, ltb, max}
-use Rattle.std.proofs.Common.{refl, sym, ap, subst, arith}
+use Rattle.std.proofs.Common.{◌≡◌, ℕ, ◌+◌, ◌-◌, ◌≤◌, inl, inr, List, [], ◌∷◌, false, Option, Some, ltb, max}
+use Rattle.std.proofs.Common.{refl, ap, arith}
 use Rattle.cps_theory.specs.RankLists.{Distinct, In, IsRank, Ordered, above, below, numbers_from, of_rank, upto}
 use Rattle.cps_theory.specs.Separation.{Landing}
 use Rattle.cps_theory.specs.Retiming.{IsFirstOpen, NeverEarlier}
@@ -29,7 +29,7 @@ holds_seven : In 7 (9 ∷ 7 ∷ [])
 holds_seven = inr (inl refl)
 
 different : Distinct (9 ∷ 7 ∷ [])
-different = ((λ i. elim i [ inl e ↦ absurd (omega arith) | inr j ↦ j ]), ((λ i. i), tt))
+different = omega arith
 
 greater_ranks : above 2 (3 ∷ 1 ∷ 4 ∷ []) ≡ 2
 greater_ranks = refl
@@ -38,13 +38,10 @@ smaller_ranks : below 2 (3 ∷ 1 ∷ 4 ∷ []) ≡ 1
 smaller_ranks = refl
 
 a_rank : IsRank 3 2
-a_rank = (omega arith, omega arith)
+a_rank = omega arith
 
 rising : Ordered ltb (1 ∷ 2 ∷ [])
-rising = (
-  (λ y i. elim i [ inl e ↦ subst (λ z. ltb 1 z ≡ true) (sym e) refl | inr j ↦ absurd j ]),
-  ((λ y i. absurd i), tt),
-)
+rising = ((λ y i. elim i [ inl e ↦ rw e refl | inr j ↦ absurd j ]), ((λ y i. absurd i), tt))
 
 -- ---- retiming; each flight is open from 1000 on, and follows 100 seconds after the one before
 
@@ -58,7 +55,7 @@ first_open = record {
 }
 
 hundred_later : NeverEarlier (λ l t r. t + 100)
-hundred_later = record { mono = λ l t u r le. omega arith }
+hundred_later = omega arith
 
 -- ---- a landing trail, the latest first
 
@@ -72,7 +69,7 @@ trail_ranks : ranks trail ≡ 1 ∷ 2 ∷ []
 trail_ranks = refl
 
 trail_landed : Landed (λ r t. 1000 ≤ t) (λ l t r. t + 100) trail
-trail_landed = (omega arith, omega arith, (omega arith, omega arith, tt))
+trail_landed = omega arith
 
 trail_pair : pair_of (λ r t. t - 1000) trail ≡ (1100, 100)
 trail_pair = refl
@@ -83,7 +80,7 @@ last_rank_none = refl
 -- ---- pairs of a second and a cost
 
 later_is_worse : NoWorse (1000, 5) (1010, 5)
-later_is_worse = (omega arith, omega arith)
+later_is_worse = omega arith
 
 test_no_worse : no_worse (1000, 5) (1010, 4) ≡ false
 test_no_worse = refl
@@ -92,7 +89,7 @@ successor : next_pair open_from_1000 (λ l t r. t + 100) (λ r t. t - 1000) 2 (1
 successor = refl
 
 delay_never_cheaper : NeverCheaper (λ r t. t - 1000)
-delay_never_cheaper = record { mono = λ r t u le. omega arith }
+delay_never_cheaper = omega arith
 
 listed : InPairs (1010, 3) ((1000, 5) ∷ (1010, 3) ∷ [])
 listed = inr (inl refl)
@@ -119,7 +116,7 @@ in_pair_order : InPairOrder ((1000, 5) ∷ (1000, 7) ∷ [])
 in_pair_order = (
   (λ q i. elim i [
     | inl e ↦ inr (
-      let a = ap (λ (z : Pair). z.0) e in omega arith,
+      omega (arith, ap (λ (z : Pair). z.0) e),
       let b =
           ap (λ (z : Pair). z.1) e in omega arith,
     )
@@ -129,4 +126,4 @@ in_pair_order = (
 )
 
 covers_all : Covers ((1005, 4) ∷ (1010, 4) ∷ []) (add_pair (1005, 4) ((1010, 4) ∷ []))
-covers_all = add_covers (1005, 4) ((1010, 4) ∷ [])
+covers_all = add_covers _ ((1010, 4) ∷ [])

@@ -74,7 +74,7 @@ abbrev at_once : ℕ → ℕ → Option ℕ
 at_once r t = Some t
 
 no_rank : (r : ℕ) → IsRank 0 r → ⊥
-no_rank r i = absurd (let a = i.0 in let b = i.1 in omega arith)
+no_rank r i = absurd (omega arith)
 
 finds_open : FindsFirstOpen nobody at_once
 finds_open = record {
@@ -84,18 +84,10 @@ finds_open = record {
 }
 
 closed_certificate : IsClosedCertificate nobody at_once (λ r t. 0) (λ w. (0, 0) ∷ [])
-closed_certificate = record {
-  start = inl refl;
-  step =
-      λ w r p q l m e. absurd (let a = m.from_one in let b = m.to_count in omega arith);
-}
+closed_certificate = record { start = inl refl; step = λ w r p q l m e. absurd (omega arith) }
 
 closed_pairs : ClosedPairs at_once (next_from nobody) (λ r t. 0) (Legal nobody.rules) (λ rs q. InPairs q ((0, 0) ∷ []))
-closed_pairs = record {
-  start = inl refl;
-  step =
-      λ r rs l p q i e. absurd (let a = l.0.fits.from_one in let b = l.0.fits.to_count in omega arith);
-}
+closed_pairs = record { start = inl refl; step = λ r rs l p q i e. absurd (omega arith) }
 
 last_second_is_objective : IsObjective (λ q. q.0)
 last_second_is_objective = λ a b le. le.0
@@ -118,7 +110,7 @@ start_completes = record {
 }
 
 lists_completing : ListsCompleting nobody (λ r t. 0) (λ t. true) (λ w. [])
-lists_completing = λ rs r l. absurd (let a = l.0.fits.from_one in let b = l.0.fits.to_count in omega arith)
+lists_completing = λ rs r l. absurd (omega arith)
 
 built_of_none : BuiltByNodes nobody at_once (λ r t. 0) (λ w. []) 0 []
 built_of_none = tt
@@ -155,7 +147,7 @@ smaller_at_second : NoGreaterOrder (1 ∷ 2 ∷ []) (1 ∷ 3 ∷ [])
 smaller_at_second = inr (refl, inl (omega arith))
 
 later_and_cheaper : NoEarlierNoDearer (1010, 3) (1000, 5)
-later_and_cheaper = (omega arith, omega arith)
+later_and_cheaper = omega arith
 
 -- ---- more of the two flights
 
@@ -166,10 +158,7 @@ landed_in : LandedIn pair_of_flights ((2, 1060) ∷ (1, 1000) ∷ [])
 landed_in = (refl, omega arith, (refl, omega arith, tt))
 
 ascends : Ascends in_rank_order (1 ∷ 2 ∷ [])
-ascends = (
-  (λ y i. elim i [ inl e ↦ (let s = ap in_rank_order e in omega arith) | inr j ↦ absurd j ]),
-  ((λ y i. absurd i), tt),
-)
+ascends = ((λ y i. elim i [ inl e ↦ (omega (arith, ap in_rank_order e)) | inr j ↦ absurd j ]), ((λ y i. absurd i), tt))
 
 abbrev first : ℕ → ℕ → Option ℕ
 first r t = Some (max t 1000)

@@ -1,5 +1,5 @@
 -- Examples of prefixes and their nodes: legal orders, windows and patterns.
-use Rattle.std.proofs.Common.{List, ◌≡◌, ℕ, inl, inr, [], ◌∷◌, get_or, true, false, refl, ap, arith}
+use Rattle.std.proofs.Common.{List, ◌≡◌, ℕ, inl, inr, [], ◌∷◌, true, false, refl, arith}
 use Rattle.std.proofs.lemmas.Bool.{false≢true}
 use Rattle.cps_theory.specs.LegalPrefix.{FitsBehind, IsLegalPrefix, Legal, OrderRules}
 use Rattle.cps_theory.specs.WindowLists.{DistinctLists, Sized}
@@ -43,19 +43,16 @@ swapped_legal = (
 
 -- with k = 0 it may not
 kept_in_rank_order : FitsBehind (record two { most = 0 }) [] 2 → ⊥
-kept_in_rank_order f = let a = f.not_early in absurd (omega arith)
+kept_in_rank_order f = absurd (omega arith)
 
 abbrev swapped : List ℕ
 swapped = 2 ∷ 1 ∷ []
 
 window_lists : DistinctLists ((0 ∷ []) ∷ (1 ∷ []) ∷ [])
-window_lists = (
-  (λ i. elim i [ inl e ↦ (let a = ap (λ l. get_or l 0 7) e in absurd (omega arith)) | inr j ↦ j ]),
-  ((λ i. i), tt),
-)
+window_lists = ((λ i. elim i [ inl e ↦ (cc) | inr j ↦ j ]), ((λ i. i), tt))
 
 window_is_sized : Sized 3 1 (2 ∷ [])
-window_is_sized = (refl, (omega arith, tt))
+window_is_sized = omega arith
 
 -- ---- patterns; the digits of ranks p - k + 1 to p + k
 
@@ -92,7 +89,7 @@ two_may_not m = m.is_new (inr refl)
 -- ---- as a whole, and as a network
 
 swapped_is_legal : IsLegalPrefix two (1 ∷ 2 ∷ [])
-swapped_is_legal = (legal_is_prefix two (λ r. omega arith) (1 ∷ 2 ∷ [])).0 swapped_legal
+swapped_is_legal = (legal_is_prefix two (λ r. omega arith) _).0 swapped_legal
 
 pattern_is_shaped : IsShaped 1 2 (2, true ∷ false ∷ [], 1)
-pattern_is_shaped = legal_is_shaped two (λ r. omega arith) 1 (2 ∷ []) swapped_legal
+pattern_is_shaped = legal_is_shaped two (λ r. omega arith) 1 _ swapped_legal

@@ -29,7 +29,7 @@ second_first : Legal two (2 ∷ [])
 second_first = swapped_legal.1
 
 no_second : Legal one (2 ∷ []) → ⊥
-no_second l = absurd (let a = l.0.fits.to_count in omega arith)
+no_second l = absurd (omega arith)
 
 -- ---- a list with windows that stand twice can be longer than the number of windows
 
@@ -37,17 +37,17 @@ abbrev twice : List (List ℕ)
 twice = [] ∷ [] ∷ []
 
 stand_twice : length twice ≤ 1 ^ 0 → ⊥
-stand_twice le = absurd (let e : 1 ^ 0 ≡ 1 = refl in omega arith)
+stand_twice le = absurd (omega arith)
 
 -- ---- what a lesser limit refuses: rank 2 first, with k = 0
 
 not_without_shift : Legal (record two { most = 0 }) (2 ∷ []) → ⊥
-not_without_shift l = absurd (let a = l.0.fits.not_early in omega arith)
+not_without_shift l = absurd (omega arith)
 
 -- ---- among the ranks of a legal prefix more than max(r, p) - r may be above r
 
 above_one_of_two : above 1 (2 ∷ []) + 1 ≤ 1 → ⊥
-above_one_of_two le = absurd (let e : above 1 (2 ∷ []) ≡ 1 = refl in omega arith)
+above_one_of_two le = absurd (omega arith)
 
 -- ---- a sweep of a list that is not sorted loses a pair that none is no worse than
 
@@ -55,4 +55,4 @@ unsorted_sweep : sweep 100 ((1010, 3) ∷ (1000, 5) ∷ []) ≡ (1010, 3) ∷ []
 unsorted_sweep = refl
 
 lost_pair : NoWorse (1010, 3) (1000, 5) → ⊥
-lost_pair n = absurd (let a = n.0 in omega arith)
+lost_pair n = absurd (omega arith)

@@ -18,10 +18,10 @@ in_rank_order (suc zero) = 1000
 in_rank_order (suc (suc r)) = 1060
 
 each_of_two : (P : ℕ → Type 0) → P 1 → P 2 → (r : ℕ) → IsRank 2 r → P r
-each_of_two P a b zero i = absurd (let l = i.0 in omega arith)
+each_of_two P a b zero i = absurd (omega arith)
 each_of_two P a b (suc zero) i = a
 each_of_two P a b (suc (suc zero)) i = b
-each_of_two P a b (suc (suc (suc r))) i = absurd (let l = i.1 in omega arith)
+each_of_two P a b (suc (suc (suc r))) i = absurd (omega arith)
 
 feasible_two : Feasible pair_of_flights in_rank_order
 feasible_two = record {
@@ -29,10 +29,8 @@ feasible_two = record {
   started = each_of_two (λ r. 1000 ≤ in_rank_order r) (omega arith) (omega arith);
   separated = λ f g i j ne le. pairs f i g j ne le;
   in_order = λ f g i j b. absurd (false≢true b);
-  not_early = each_of_two (λ r. r ≤ suc (earlier 2 in_rank_order r) + 1) (omega arith)
-      (let e : earlier 2 in_rank_order 2 ≡ 1 = refl in omega arith);
-  not_late = each_of_two (λ r. suc (earlier 2 in_rank_order r) ≤ r + 1) (let e : earlier 2 in_rank_order 1 ≡ 0 =
-      refl in omega arith) (let e : earlier 2 in_rank_order 2 ≡ 1 = refl in omega arith);
+  not_early = each_of_two (λ r. r ≤ suc (earlier 2 in_rank_order r) + 1) (omega arith) (omega arith);
+  not_late = each_of_two (λ r. suc (earlier 2 in_rank_order r) ≤ r + 1) (omega arith) (omega arith);
 }
   where
     pairs : (f : ℕ) → IsRank 2 f → (g : ℕ) → IsRank 2 g → f ≢ g → in_rank_order f ≤ in_rank_order g
@@ -55,10 +53,10 @@ sound_two = record {
 }
 
 first_rank : IsRank 2 1
-first_rank = (omega arith, omega arith)
+first_rank = omega arith
 
 second_rank : IsRank 2 2
-second_rank = (omega arith, omega arith)
+second_rank = omega arith
 
 -- no feasible schedule in rank order lands either earlier
 tight_two : Tight pair_of_flights in_rank_order
@@ -67,7 +65,6 @@ tight_two = record {
   least = λ u f same.
       let before = (same 1 2 first_rank second_rank).0 (omega arith) in
       let apart = f.separated 1 2 first_rank second_rank (λ e. absurd (omega arith)) (omega arith) in
-      let one = f.started 1 first_rank in
       each_of_two (λ r. in_rank_order r ≤ u r) (omega arith) (omega arith);
 }
 
@@ -76,12 +73,9 @@ best_two : IsBest pair_of_flights (λ t. greatest t 2) in_rank_order
 best_two = record {
   feasible = feasible_two;
   least = λ u f.
-      let one = f.started 1 first_rank in
-      let two' = f.started 2 second_rank in
       elim (cases_lt (u 1) (u 2)) [
-        | inl lt ↦ (let s = f.separated 1 2 first_rank second_rank (λ e. absurd (omega arith)) (omega arith) in
-            omega arith)
-        | inr le ↦ (let s = f.separated 2 1 second_rank first_rank (λ e. absurd (omega arith)) le in omega arith)
+        | inl lt ↦ (omega (arith, f.separated 1 2 first_rank second_rank (λ e. absurd (omega arith)) (omega arith)))
+        | inr le ↦ (omega (arith, f.separated 2 1 second_rank first_rank (λ e. absurd (omega arith)) le))
       ];
 }
 
@@ -114,4 +108,4 @@ pair_of_two : second_and_cost (λ r t. t - 1000) 2 in_rank_order ≡ (1060, 60)
 pair_of_two = refl
 
 same_order : SameOrder 2 in_rank_order in_rank_order
-same_order = λ f g i j. (λ lt. lt, λ lt. lt)
+same_order = omega arith

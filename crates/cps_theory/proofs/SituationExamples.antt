@@ -1,5 +1,5 @@
 -- Examples of situations: flights 7 and 9, of which 7 came first and 9 lands first.
-use Rattle.std.proofs.Common.{◌≡◌, ◌≢◌, ℕ, ◌+◌, ◌≤◌, inl, inr, [], ◌∷◌, true, false, cond, ltb, refl, sym, subst, arith}
+use Rattle.std.proofs.Common.{◌≡◌, ◌≢◌, ℕ, ◌+◌, ◌≤◌, inl, inr, [], ◌∷◌, true, false, cond, ltb, refl, sym, arith}
 use Rattle.std.proofs.lemmas.Bool.{cases_eq, le-ltb, ltb-false, false≢true, ltb-true, lt-ltb}
 use Rattle.std.proofs.lemmas.List.Sorted.{IsPermutation-refl}
 use Rattle.cps_theory.specs.RankLists.{In}
@@ -7,7 +7,6 @@ use Rattle.cps_theory.specs.Feasible.{RankedProblem}
 use Rattle.cps_theory.specs.Freeze.{FirstCome, KeepsCountedShift, frozen_of, overtook, place_in, rank_in, staying_of}
 use Rattle.cps_theory.specs.NumberedSituation.{FeasibleIn, NumberedSituation, ProblemOf, SoundSituation, active}
 use Rattle.cps_theory.specs.Objectives.{SameObjectives, latest_in}
-use Rattle.cps_theory.specs.laws.WholeObjective.{same_objectives}
 
 -- flight 7 lands at 1200, flight 9 at 1000
 abbrev plan : ℕ → ℕ
@@ -20,12 +19,7 @@ seven_ranks_first : rank_in ltb (7 ∷ 9 ∷ []) 7 ≡ 1
 seven_ranks_first = refl
 
 keeps_shift : KeepsCountedShift 1 (λ f. 1) ltb plan (7 ∷ 9 ∷ []) 7
-keeps_shift = (
-  let e : place_in plan (7 ∷ 9 ∷ []) 7 ≡ 2 = refl in let r : rank_in ltb (7 ∷ 9 ∷ []) 7 ≡ 1 =
-      refl in omega arith,
-  let e : place_in plan (7 ∷ 9 ∷ []) 7 ≡ 2 = refl in let r : rank_in ltb (7 ∷ 9 ∷ []) 7 ≡ 1 =
-      refl in omega arith,
-)
+keeps_shift = omega arith
 
 -- it was passed over once, so that the next time it may not go back
 frozen_nine : frozen_of plan 1100 (7 ∷ 9 ∷ []) ≡ 9 ∷ []
@@ -39,7 +33,7 @@ overtaken_once = refl
 
 by_number : FirstCome ltb
 by_number = record {
-  one_way = λ a b e. le-ltb b a (let l = ltb-true a b e in omega arith);
+  one_way = λ a b e. le-ltb b a (omega (arith, ltb-true a b e));
   chain = λ a b c e f. lt-ltb a c (let l = ltb-true a b e in let m = ltb-true b c f in omega arith);
   total = λ a b ne e. lt-ltb b a (let l =
       ltb-false a b e in elim (cases_eq a b) [ inl s ↦ absurd (ne s) | inr ne' ↦ omega arith ]);
@@ -65,11 +59,11 @@ abbrev landing_of : ℕ → ℕ
 landing_of f = cond (ltb f 6) 980 1040
 
 one_of : (P : ℕ → Type 0) (x : ℕ) → P x → (y : ℕ) → In y (x ∷ []) → P y
-one_of P x p y (inl e) = subst P (sym e) p
+one_of P x p y (inl e) = rw e p
 one_of P x p y (inr i) = absurd i
 
 two_of : (P : ℕ → Type 0) → P 5 → P 7 → (y : ℕ) → In y (5 ∷ 7 ∷ []) → P y
-two_of P p q y (inl e) = subst P (sym e) p
+two_of P p q y (inl e) = rw e p
 two_of P p q y (inr i) = one_of P 7 q y i
 
 feasible_situation : FeasibleIn situation landing_of
@@ -83,12 +77,7 @@ feasible_situation = record {
       (two_of (λ g. 7 ≢ g → 1040 ≤ landing_of g → 1100 ≤ landing_of g) (λ ne le. absurd (omega arith))
       (λ ne le. absurd (ne refl)) g j) f i;
   in_order = λ f g i j l. absurd (false≢true l);
-  shifted = one_of (λ f. KeepsCountedShift 1 (λ f. 1) ltb landing_of (7 ∷ []) f) 7 (
-    let e : place_in landing_of (7 ∷ []) 7 ≡ 1 = refl in let r : rank_in ltb (7 ∷ []) 7 ≡ 1 =
-        refl in omega arith,
-    let e : place_in landing_of (7 ∷ []) 7 ≡ 1 = refl in let r : rank_in ltb (7 ∷ []) 7 ≡ 1 =
-        refl in omega arith,
-  );
+  shifted = one_of (λ f. KeepsCountedShift 1 (λ f. 1) ltb landing_of (7 ∷ []) f) 7 (omega arith, omega arith);
 }
 
 sound_situation : SoundSituation situation
@@ -128,12 +117,12 @@ problem_is = record {
   apart_is = λ q r. refl;
   before_is = λ q r i j. refl;
   start_low = λ r t le. (omega arith, λ x i most. omega arith);
-  start_high = λ r t le after. after 5 (inl refl) (one_of (λ f. 980 ≤ 980) 5 (omega arith));
+  start_high = λ r t le after. after 5 (inl refl) (omega arith);
   at_in = λ r i. inl refl;
   at_all = λ f i. (1, (omega arith, omega arith), one_of (λ x. 7 ≡ x) 7 refl f i);
-  at_order = λ q r i j lt. absurd (let a = i.0 in let b = j.1 in omega arith);
+  at_order = λ q r i j lt. absurd (omega arith);
   permuted = IsPermutation-refl (7 ∷ []);
 }
 
 objectives : SameObjectives situation problem (λ r. 7) landing_of
-objectives = same_objectives situation problem (λ r. 7) sound_situation problem_is landing_of feasible_situation
+objectives = omega arith

@@ -1,20 +1,20 @@
 -- No finding exactly where the block is clean.
-use Rattle.std.proofs.Common.{◌≡◌, ◌≢◌, ℕ, suc, ◌<◌, ◌≤◌, ◌⊎◌, inl, inr, List, [], ◌∷◌, ◌++◌, length, map, filter}
-use Rattle.std.proofs.Common.{cond, nat_eq, zero-le, arith, refl, sym, ap, ap₂, subst, ◌∙◌}
+use Rattle.std.proofs.Common.{◌≡◌, ◌≢◌, ℕ, suc, ◌⊎◌, inl, inr, List, [], ◌∷◌, length, map, filter}
+use Rattle.std.proofs.Common.{cond, zero-le, arith, refl, sym, ap, ap₂, subst, ◌∙◌}
 use Rattle.std.specs.Prelude.{option_map, find, All, AllPairs, Option, Some, None}
 use Rattle.std.specs.List.{list_any, cons_option}
 use Rattle.std.proofs.lemmas.Bool.{cases_eq, eqb-true, eq-eqb}
 use Rattle.std.proofs.lemmas.List.Sorted.{IsPermutation-sym}
 use Rattle.landing_rules.specs.declared.objective.Objective.{Objective}
 use Rattle.landing_rules.specs.Flights.{Active, Situation, Schedule, Landing, landing, landings}
-use Rattle.landing_rules.specs.Rules.{last_second, waits, cost, objective, ArePairSeparated, KeepsRules, IsFeasible}
+use Rattle.landing_rules.specs.Rules.{cost, objective, ArePairSeparated, IsFeasible}
 use Rattle.landing_rules.specs.Events.{named, in_landing_order, IsPlanShown}
-use Rattle.landing_rules.specs.Text.{ShownLanding, shown_landing, shown_plan}
+use Rattle.landing_rules.specs.Text.{ShownLanding, shown_plan}
 use Rattle.landing_rules.specs.Sound.{IsSound}
 use Rattle.landing_rules.specs.shared.Counting.{Member}
-use Rattle.landing_rules.specs.Audit.{Block, block_of, IsClean, Missing, Unknown, OtherObjective, Value, has_line}
-use Rattle.landing_rules.specs.Audit.{missing, unknown, twice, by_name, disordered, lines_found, mismarked, landing_of}
-use Rattle.landing_rules.specs.Audit.{by_rules, is_objective, other_objective, other_value, by_line, or_else, findings}
+use Rattle.landing_rules.specs.Audit.{Block, block_of, IsClean, OtherObjective, Value, has_line}
+use Rattle.landing_rules.specs.Audit.{disordered, lines_found, landing_of}
+use Rattle.landing_rules.specs.Audit.{by_rules, or_else, findings}
 use Rattle.cps_theory.specs.RankLists.{In}
 use Rattle.cps_theory.specs.laws.NumberedLists.{in_numbers, numbers_in, distinct_numbers}
 use Rattle.landing_joint.specs.Numbered.{nobody, numbered, second_of, numbers_of}
@@ -38,21 +38,17 @@ module _ (s : Situation) (sound : IsSound s) where
   module _ (t : Schedule) (long : length t ≡ length s.active) where
     of_number : (x : Landing) → Member x (landings s.active t) → (i : ℕ) × In i (numbers_of s.active)
         × (x ≡ landing_at s.active t i)
-    of_number x m = in_map (landing_at s.active t) (numbers_of s.active) x
-        (subst (Member x) (landings_are s.active t long) m)
+    of_number x m = in_map _ _ x (rw (landings_are _ t long) at m)
 
     number_of : (i : ℕ) → In i (numbers_of s.active) → Member (landing_at s.active t i) (landings s.active t)
-    number_of i m = subst (Member (landing_at s.active t i)) (sym (landings_are s.active t long))
-        (map_in (landing_at s.active t) (numbers_of s.active) i m)
+    number_of i m = rw (landings_are _ t long) (map_in _ _ i m)
 
     finds : (x : Landing) → Member x (landings s.active t) → Found s x
     finds x m =
         let w = of_number x m in
-        let b = in_numbers 0 (length s.active) w.0 w.1 in
-        subst (Found s) (sym w.2) (
+        rw w.2 (
           numbered s.active w.0,
-          find_first s.active sound.callsigns w.0
-              (omega (arith, b.1)),
+          find_first _ sound.callsigns w.0 (omega (arith, (in_numbers 0 _ w.0 w.1).1)),
           refl,
         )
 
@@ -63,8 +59,7 @@ module _ (s : Situation) (sound : IsSound s) where
         let w = of_number y my in
         elim (cases_eq v.0 w.0) [
           | inl q ↦ v.2 ∙ ap (landing_at s.active t) q ∙ sym w.2
-          | inr ne ↦ absurd (callsigns_differ s sound v.0 w.0 v.1 w.1 ne
-              (ap (λ (z : Landing). z.flight.callsign) (sym v.2) ∙ e ∙ ap (λ (z : Landing). z.flight.callsign) w.2))
+          | inr ne ↦ absurd (callsigns_differ s sound v.0 w.0 v.1 w.1 ne (cc))
         ]
 
   -- the block of a feasible schedule is without a finding
@@ -72,61 +67,31 @@ module _ (s : Situation) (sound : IsSound s) where
   clean_none t f =
       let Ms = landings s.active t in
       let S = in_landing_order Ms in
-      let lines = map shown_landing S in
-      let b = block_of s t in
+      let lines = map _ S in
       let fs : (x : Landing) → Member x S → Found s x = λ x m. finds t f.0 x (order_member x Ms m) in
       let apart : (i j : ℕ) → In i (numbers_of s.active) → In j (numbers_of s.active) → i ≢ j
       → second_of t i ≢ second_of t j = λ i j mi mj ne e.
       let sep = all_at (ArePairSeparated s.aerodrome.table (landing_at s.active t i)) Ms
-      (all_at (λ g. All (ArePairSeparated s.aerodrome.table g) Ms) Ms f.1.separated (landing_at s.active t i)
-      (number_of t f.0 i mi)) (landing_at s.active t j) (number_of t f.0 j mj)
-      (callsigns_differ s sound i j mi mj ne) (omega arith) in
-      let one = (sound.table.entries (numbered s.active i).flight.category (numbered s.active j).flight.category).0 in
+      (all_at (λ g. All (ArePairSeparated s.aerodrome.table g) Ms) Ms f.1.separated _
+      (number_of t f.0 i mi)) _ (number_of t f.0 j mj) (callsigns_differ s sound i j mi mj ne) (omega arith) in
       omega arith in
-      let strict : Strict S = strict_order Ms (subst (Each (λ f g. f.second ≢ g.second))
-      (sym (landings_are s.active t f.0)) (each_map (λ f g. f.second ≢ g.second) (landing_at s.active t)
-      (numbers_of s.active) (distinct_numbers 0 (length s.active)) apart)) in
-      let missing0 : missing s.active b.plan.landings ≡ [] = none_broken (λ a. has_line lines a.flight.callsign)
-      (λ (a : Active). Missing a.flight.callsign) s.active (λ a m.
-      let w = member_number a s.active m in
-      let n = numbers_in 0 (length s.active) w.0 zero-le (let l = w.1 in omega arith) in
-      ap (λ (z : Active). has_line lines z.flight.callsign) w.2
-      ∙ member_line (shown_landing (landing_at s.active t w.0)) lines
-      (map_in shown_landing S (landing_at s.active t w.0)
-      (member_order (landing_at s.active t w.0) Ms (number_of t f.0 w.0 n)))) in
-      let unknown0 : unknown s.active b.plan.landings ≡ [] = none_broken (λ l. list_any (named l.callsign) s.active)
-      (λ (l : ShownLanding). Unknown l.callsign) lines
-      (λ l m. let w = in_map shown_landing S l m in let x = fs w.0 w.1 in
-      ap (λ (z : ShownLanding). list_any (named z.callsign) s.active) w.2
-      ∙ found_any w.0.flight.callsign s.active x.0 x.1) in
-      let twice0 : twice b.plan.landings ≡ [] = none_twice [] lines (λ l m. refl)
+      let strict = strict_order Ms (rw (landings_are _ t f.0) (each_map _ _ _ (distinct_numbers 0 _) apart)) in
+      let missing0 = none_broken _ _ _ (λ a m.
+      let w = member_number a _ m in
+      ap (λ (z : Active). has_line lines z.flight.callsign) w.2 ∙ member_line _ _ (map_in _ S _
+      (member_order _ Ms (number_of t f.0 w.0 (numbers_in 0 _ w.0 zero-le (omega (arith, w.1))))))) in
+      let unknown0 = none_broken _ _ _ (λ l m. let w = in_map _ S l m in let x = fs w.0 w.1 in
+      ap (λ (z : ShownLanding). list_any (named z.callsign) s.active) w.2 ∙ found_any _ s.active x.0 x.1) in
+      let twice0 = none_twice [] lines (λ l m. refl)
       (each_lines S strict (λ x y i j e. unique t f.0 x y (order_member x Ms i) (order_member y Ms j) e)) in
-      let is : block_landings s.active lines ≡ S = lines_landings s S fs in
-      let rules0 : by_rules s (block_landings s.active lines) ≡ [] =
-      ap (by_rules s) is ∙ kept_rules s S (rules-moved s Ms S (order_permutes Ms) (filter_order Ms) f.1) in
-      let word0 : other_objective b.objective s.aerodrome.objective ≡ [] =
-      ap (λ c. cond c [] (OtherObjective ∷ [])) (same_refl s.aerodrome.objective) in
-      let same : cost s.aerodrome.objective (block_landings s.active lines) ≡ objective s t =
-      ap (cost s.aerodrome.objective) is ∙ cost_order s.aerodrome.objective Ms in
-      let value0 : other_value b.plan.value (cost s.aerodrome.objective (block_landings s.active lines)) ≡ [] =
-      ap (λ c. cond c [] (Value (cost s.aerodrome.objective (block_landings s.active lines)) ∷ []))
-      (eq-eqb (cost s.aerodrome.objective (block_landings s.active lines)) (objective s t) same) in
-      ap₂ or_else (nil_append (missing s.active b.plan.landings) (unknown s.active b.plan.landings
-      ++ twice b.plan.landings) missing0 (nil_append (unknown s.active b.plan.landings)
-      (twice b.plan.landings) unknown0 twice0))
-      (nil_append (disordered lines) (mismarked (lines_found s.active b.plan.landings)
-      ++ (by_rules s (block_landings s.active lines)
-      ++ (other_objective b.objective s.aerodrome.objective
-      ++ other_value b.plan.value (cost s.aerodrome.objective (block_landings s.active lines)))))
-      (strict_lines S strict)
-      (nil_append (mismarked (lines_found s.active b.plan.landings)) (by_rules s (block_landings s.active lines)
-      ++ (other_objective b.objective s.aerodrome.objective
-      ++ other_value b.plan.value (cost s.aerodrome.objective (block_landings s.active lines))))
-      (lines_marks s S fs)
-      (nil_append (by_rules s (block_landings s.active lines)) (other_objective b.objective s.aerodrome.objective
-      ++ other_value b.plan.value (cost s.aerodrome.objective (block_landings s.active lines))) rules0
-      (nil_append (other_objective b.objective s.aerodrome.objective)
-      (other_value b.plan.value (cost s.aerodrome.objective (block_landings s.active lines))) word0 value0))))
+      let is = lines_landings s S fs in
+      let rules0 = ap (by_rules s) is ∙ kept_rules s S (rules-moved s Ms S (order_permutes Ms) (filter_order Ms) f.1) in
+      let same = ap (cost s.aerodrome.objective) is ∙ cost_order _ Ms in
+      let value0 =
+      ap (λ c. cond c [] (Value (cost s.aerodrome.objective (block_landings s.active lines)) ∷ [])) (eq-eqb _ _ same) in
+      ap₂ or_else (nil_append _ _ missing0 (nil_append _ _ unknown0 twice0)) (nil_append _ _ (strict_lines S strict)
+      (nil_append _ _ (lines_marks s S fs)
+      (nil_append _ _ rules0 (nil_append _ _ (ap (λ c. cond c [] (OtherObjective ∷ [])) (same_refl _)) value0))))
 
   -- ---- and back
 
@@ -134,7 +99,7 @@ module _ (s : Situation) (sound : IsSound s) where
       → (l : ShownLanding) × (a : Active) × Member l ls × (find (named l.callsign) s.active ≡ Some a)
       × (x ≡ landing a l.second)
   block_member [] x m = absurd m
-  block_member (l ∷ ls) x m = go (find (named l.callsign) s.active) refl m (block_member ls x)
+  block_member (l ∷ ls) x m = go _ refl m (block_member ls x)
     where
       go : (o : Option Active) → find (named l.callsign) s.active ≡ o
           → Member x (map landing_of (cons_option (option_map (λ a. (l, a)) o) (lines_found s.active ls)))
@@ -150,11 +115,8 @@ module _ (s : Situation) (sound : IsSound s) where
       → find (named l.callsign) s.active ≡ Some a → Member (landing a l.second) (block_landings s.active ls)
   member_block [] l a m q = absurd m
   member_block (k ∷ ls) l a (inl e) q =
-      subst (λ o. Member (landing a l.second)
-      (map landing_of (cons_option (option_map (λ c. (k, c)) o) (lines_found s.active ls))))
-      (sym (ap (λ (y : ShownLanding). find (named y.callsign) s.active) (sym e) ∙ q))
-      (inl (ap (λ (y : ShownLanding). landing a y.second) e))
-  member_block (k ∷ ls) l a (inr m) q = go (find (named k.callsign) s.active) (member_block ls l a m q)
+      rw (ap (λ (y : ShownLanding). find (named y.callsign) s.active) (sym e) ∙ q) (inl (cc))
+  member_block (k ∷ ls) l a (inr m) q = go _ (member_block ls l a m q)
     where
       go : (o : Option Active) → Member (landing a l.second) (block_landings s.active ls)
           → Member (landing a l.second)
@@ -173,12 +135,12 @@ module _ (s : Situation) (sound : IsSound s) where
   each_active F L strict [] h i = tt
   each_active F L strict (a ∷ all) h i = (
     λ y m q.
-        let w = in_map (λ x. landing x (F x)) all y m in
+        let w = in_map _ all y m in
         let n = member_number w.0 all w.1 in
-        let differ : a.flight.callsign ≢ w.0.flight.callsign = λ e. h 0 (suc n.0) nobody (omega arith) (let l =
-        n.1 in omega arith) (e ∙ ap (λ (z : Active). z.flight.callsign) n.2) in
-        let same : F a ≡ F w.0 = q ∙ ap (λ (z : Landing). z.second) w.2 in
-        elim (each_pair (λ f g. f.second < g.second) L strict (landing a (F a)) (landing w.0 (F w.0))
+        let differ : a.flight.callsign ≢ w.0.flight.callsign = λ e. h 0 (suc n.0) nobody (omega arith) (omega arith)
+        (cc) in
+        let same = q ∙ ap (λ (z : Landing). z.second) w.2 in
+        elim (each_pair _ L strict _ _
         (i a (inl refl)) (i w.0 (inr w.1))) [
           | inl e ↦ differ (ap (λ (z : Landing). z.flight.callsign) e)
           | inr o ↦ elim o [ inl lt ↦ omega arith | inr lt ↦ omega arith ]
@@ -192,91 +154,70 @@ module _ (s : Situation) (sound : IsSound s) where
   -- a block without a finding is that of a feasible schedule
   pub none_clean : (b : Block) → findings s b ≡ [] → IsClean s b
   none_clean b e =
-      let lines = b.plan.landings in
       let L = block_landings s.active b.plan.landings in
-      let e0 = or_else_nil (by_name s.active b.plan.landings) (by_line s b) e in
-      let n1 = append_nil (missing s.active b.plan.landings) (unknown s.active b.plan.landings
-      ++ twice b.plan.landings) e0.0 in
-      let n2 = append_nil (unknown s.active b.plan.landings) (twice b.plan.landings) n1.1 in
-      let r1 = append_nil (disordered b.plan.landings) (mismarked (lines_found s.active b.plan.landings)
-      ++ (by_rules s L ++ (other_objective b.objective s.aerodrome.objective
-      ++ other_value b.plan.value (cost s.aerodrome.objective L)))) e0.1 in
-      let r2 = append_nil (mismarked (lines_found s.active b.plan.landings)) (by_rules s L
-      ++ (other_objective b.objective s.aerodrome.objective
-      ++ other_value b.plan.value (cost s.aerodrome.objective L))) r1.1 in
-      let r3 = append_nil (by_rules s L) (other_objective b.objective s.aerodrome.objective
-      ++ other_value b.plan.value (cost s.aerodrome.objective L)) r2.1 in
-      let r4 = append_nil (other_objective b.objective s.aerodrome.objective)
-      (other_value b.plan.value (cost s.aerodrome.objective L)) r3.1 in
-      let has = broken_none (λ (a : Active). has_line b.plan.landings a.flight.callsign)
-      (λ (a : Active). Missing a.flight.callsign) s.active n1.0 in
-      let named_all = broken_none (λ (l : ShownLanding). list_any (named l.callsign) s.active)
-      (λ (l : ShownLanding). Unknown l.callsign) b.plan.landings n2.0 in
+      let e0 = or_else_nil _ _ e in
+      let n1 = append_nil _ _ e0.0 in
+      let n2 = append_nil _ _ n1.1 in
+      let r1 = append_nil _ _ e0.1 in
+      let r2 = append_nil _ _ r1.1 in
+      let r3 = append_nil _ _ r2.1 in
+      let r4 = append_nil _ _ r3.1 in
+      let has = broken_none _ _ _ n1.0 in
       let each = (twice_none [] b.plan.landings n2.1).1 in
-      let is_lines : map shown_landing L ≡ b.plan.landings = landings_lines s b.plan.landings named_all r2.0 in
-      let strict : Strict L = lines_strict L (ap disordered is_lines ∙ r1.0) in
+      let is_lines = landings_lines s _ (broken_none _ _ _ n2.0) r2.0 in
+      let strict = lines_strict L (ap disordered is_lines ∙ r1.0) in
       let F = λ (a : Active). second_in b.plan.landings a.flight.callsign in
-      let t = map F s.active in
+      let t = map F _ in
       let Ms = landings s.active t in
-      let ms_is : Ms ≡ map (λ a. landing a (F a)) s.active = landings_map F s.active in
+      let ms_is = landings_map F _ in
       let known : (a : Active) → Member a s.active → Member (landing a (F a)) L = λ a m.
-      let n = member_number a s.active m in
-      let w = line_member a.flight.callsign b.plan.landings (has a m) in
-      let first : find (named a.flight.callsign) s.active ≡ Some a =
-      ap (λ (z : Active). find (named z.flight.callsign) s.active) n.2 ∙ find_first s.active sound.callsigns n.0 n.1
+      let n = member_number a _ m in
+      let w = line_member _ _ (has a m) in
+      let first =
+      ap (λ (z : Active). find (named z.flight.callsign) s.active) n.2 ∙ find_first _ sound.callsigns n.0 n.1
       ∙ ap Some (sym n.2) in
-      let at : F a ≡ w.0.second = ap (second_in b.plan.landings) (sym w.2) ∙ second_at b.plan.landings each w.0 w.1 in
-      subst (λ u. Member (landing a u) L) (sym at)
-      (member_block b.plan.landings w.0 a w.1 (ap (λ c. find (named c) s.active) w.2 ∙ first)) in
+      let at = ap (second_in b.plan.landings) (sym w.2) ∙ second_at _ each w.0 w.1 in
+      rw at (member_block _ w.0 a w.1 (cc)) in
       let forth : (x : Landing) → Member x L → Member x Ms = λ x m.
-      let w = block_member b.plan.landings x m in
-      let k = find_some w.0.callsign s.active w.1 w.3 in
-      let at : F w.1 ≡ w.0.second = ap (second_in b.plan.landings) k.1 ∙ second_at b.plan.landings each w.0 w.2 in
-      subst (Member x) (sym ms_is) (subst (λ y. Member y (map (λ a. landing a (F a)) s.active))
-      (ap (λ u. landing w.1 u) at ∙ sym w.4) (map_in (λ a. landing a (F a)) s.active w.1 k.0)) in
+      let w = block_member _ x m in
+      let k = find_some _ _ w.1 w.3 in
+      let at = ap (second_in b.plan.landings) k.1 ∙ second_at _ each w.0 w.2 in
+      rw ms_is (rw (ap (λ u. landing w.1 u) at ∙ sym w.4) at (map_in (λ a. landing a (F a)) s.active w.1 k.0)) in
       let back : (x : Landing) → Member x Ms → Member x L = λ x m.
-      let w = in_map (λ a. landing a (F a)) s.active x (subst (Member x) ms_is m) in
-      subst (λ y. Member y L) (sym w.2) (known w.0 w.1) in
+      let w = in_map _ _ x (rw ms_is at m) in
+      rw w.2 (known w.0 w.1) in
       let S = in_landing_order Ms in
-      let strictS : Strict S = strict_order Ms (subst (Each (λ f g. f.second ≢ g.second)) (sym ms_is)
-      (each_active F L strict s.active sound.callsigns known)) in
-      let E : L ≡ S = strict_equal L S strict strictS (λ x m. member_order x Ms (forth x m))
+      let strictS = strict_order Ms (subst (Each (λ f g. f.second ≢ g.second)) (sym ms_is)
+      (each_active F L strict _ sound.callsigns known)) in
+      let E = strict_equal L S strict strictS (λ x m. member_order x Ms (forth x m))
       (λ x m. back x (order_member x Ms m)) in
-      let keeps : KeepsRules s L = rules_kept s L (λ f m.
-      let w = block_member b.plan.landings f m in
-      let k = find_some w.0.callsign s.active w.1 w.3 in
-      let n = member_number w.1 s.active k.0 in
-      subst (λ (y : Landing). All (λ v. (v.0 ≤ v.1) × (v.1 ≤ last_second)) y.flight.windows)
-      (sym w.4) (subst (λ (y : Active). All (λ v. (v.0 ≤ v.1) × (v.1 ≤ last_second)) y.flight.windows)
-      (sym n.2) (sound.flights n.0 nobody n.1).windows.spans)) r3.0 in
+      let keeps = rules_kept s L (λ f m.
+      let w = block_member _ f m in
+      let n = member_number w.1 _ (find_some _ _ w.1 w.3).0 in
+      rw w.4 (rw n.2 (sound.flights n.0 nobody n.1).windows.spans)) r3.0 in
       let feasible : IsFeasible s t = (
-        length-map s.active F,
+        length-map _ F,
         rules-moved s S Ms (IsPermutation-sym Ms S (order_permutes Ms))
-            (IsPermutation-sym (filter waits Ms) (filter waits S) (filter_order Ms)) (subst (KeepsRules s) E keeps),
+            (IsPermutation-sym (filter _ Ms) (filter _ S) (filter_order Ms)) (rw E at keeps),
       ) in
-      let word_is : b.objective ≡ s.aerodrome.objective = same_true b.objective s.aerodrome.objective
-      (one_nil (is_objective b.objective s.aerodrome.objective) OtherObjective r4.0) in
-      let value_is : cost s.aerodrome.objective L ≡ b.plan.value = eqb-true (cost s.aerodrome.objective L) b.plan.value
-      (one_nil (nat_eq (cost s.aerodrome.objective L) b.plan.value) (Value (cost s.aerodrome.objective L)) r4.1) in
-      let total : b.plan.value ≡ objective s t = sym value_is ∙ ap (cost s.aerodrome.objective) E
-      ∙ cost_order s.aerodrome.objective Ms in
-      let text : b.plan.landings ≡ map shown_landing S = sym is_lines ∙ ap (map shown_landing) E in (
+      let word_is = same_true _ _ (one_nil _ _ r4.0) in
+      let total = sym (eqb-true _ _ (one_nil _ _ r4.1)) ∙ ap (cost s.aerodrome.objective) E ∙ cost_order _ Ms in (
         t,
         feasible,
         ap₂ (λ (o : Objective) (v : ℕ). made_block o v b.plan.landings) word_is total
-            ∙ ap (made_block s.aerodrome.objective (objective s t)) text,
+            ∙ ap (made_block _ (objective s t)) (sym is_lines ∙ ap (map _) E),
       )
 
 pub audit_law : AuditLaw
 audit_law s b sound = (none_clean s sound b, λ c. ap (findings s) c.2 ∙ clean_none s sound c.0 c.1)
 
 pub shown_plan_is_clean : ShownPlanIsCleanLaw
-shown_plan_is_clean state plan sound e = go state.plan refl e sound.shown
+shown_plan_is_clean state plan sound e = go _ refl e sound.shown
   where
     go : (o : Option Schedule) → state.plan ≡ o → option_map (shown_plan state.situation) o ≡ Some plan
         → IsPlanShown state.situation o → findings state.situation (shown_block state plan) ≡ []
-    go None q e shown = let n : None ≡ Some plan = e in absurd (cc)
+    go None q e shown = absurd (cc)
     go (Some t) q e shown =
         let same : shown_plan state.situation t ≡ plan = cc in
         ap (λ p. findings state.situation (shown_block state p)) (sym same)
-        ∙ clean_none state.situation sound.situation t shown.0.feasible
+        ∙ clean_none _ sound.situation t shown.0.feasible

@@ -1,6 +1,6 @@
 -- The lines of a block, their flights and their landings.
 use Rattle.std.proofs.Common.{◌≡◌, ◌≢◌, ℕ, zero, suc, ◌+◌, ◌<◌, inl, inr, List, [], ◌∷◌, length, map, cond, Bool, true}
-use Rattle.std.proofs.Common.{false, not, arith, refl, sym, ap, ap₂, subst, ◌∙◌}
+use Rattle.std.proofs.Common.{false, not, arith, refl, sym, ap, ap₂, ◌∙◌}
 use Rattle.std.specs.Prelude.{option_map, find, AllPairs, Some}
 use Rattle.std.specs.Str.{bytes_eq}
 use Rattle.std.specs.List.{list_any, cons_option}
@@ -27,17 +27,16 @@ pub find_first : (all : List Active) → AllPairs (λ a b. a.flight.callsign ≢
     → (i : ℕ) → i < length all → find (named (numbered all i).flight.callsign) all ≡ Some (numbered all i)
 find_first [] h i lt = absurd (omega arith)
 find_first (a ∷ all) h zero lt = ap (λ b. cond b (Some a) (find (named a.flight.callsign) all))
-    ((bytes_eq-Decides a.flight.callsign a.flight.callsign).1 refl)
+    ((bytes_eq-Decides _ a.flight.callsign).1 refl)
 find_first (a ∷ all) h (suc i) lt =
     let c = (numbered all i).flight.callsign in
-    let no' : bytes_eq a.flight.callsign c ≡ false = false_from_ne_true (bytes_eq a.flight.callsign c)
-    (λ e. h 0 (suc i) nobody (omega arith) lt ((bytes_eq-Decides a.flight.callsign c).0 e)) in
+    let no' = false_from_ne_true _ (λ e. h 0 (suc i) nobody (omega arith) lt ((bytes_eq-Decides _ c).0 e)) in
     ap (λ b. cond b (Some a) (find (named c) all)) no'
     ∙ find_first all (λ k j d l m. h (suc k) (suc j) d (omega arith) (omega arith)) i (omega arith)
 
 pub find_some : (c : Callsign) (all : List Active) (a : Active) → find (named c) all ≡ Some a
     → Member a all × (a.flight.callsign ≡ c)
-find_some c all a e = let r = found_in (named c) all a e in (r.0, (bytes_eq-Decides a.flight.callsign c).0 r.1)
+find_some c all a e = let r = found_in _ all a e in (r.0, (bytes_eq-Decides _ c).0 r.1)
 
 pub any_found : (c : Callsign) (all : List Active) → list_any (named c) all ≡ true
     → (a : Active) × (find (named c) all ≡ Some a)
@@ -49,26 +48,24 @@ any_found c (x ∷ all) e = elim (cases_Bool (bytes_eq x.flight.callsign c)) [
 
 pub found_any : (c : Callsign) (all : List Active) (a : Active) → find (named c) all ≡ Some a
     → list_any (named c) all ≡ true
-found_any c all a e = elim (cases_Bool (list_any (named c) all)) [
+found_any c all a e = elim (cases_Bool _) [
   | inl y ↦ y
-  | inr n ↦ (let r = found_in (named c) all a e in absurd (false≢true (sym (none_any (named c) all a n r.0) ∙ r.1)))
+  | inr n ↦ (let r = found_in _ all a e in absurd (false≢true (sym (none_any _ all a n r.0) ∙ r.1)))
 ]
 
 pub line_member : (c : Callsign) (lines : List ShownLanding) → has_line lines c ≡ true
     → (l : ShownLanding) × Member l lines × (l.callsign ≡ c)
 line_member c [] e = absurd (false≢true e)
-line_member c (l ∷ lines) e = elim (or_cases (bytes_eq l.callsign c) (has_line lines c) e) [
-  | inl h ↦
-      (l, inl refl, (bytes_eq-Decides l.callsign c).0 h)
+line_member c (l ∷ lines) e = elim (or_cases _ _ e) [
+  | inl h ↦ (l, inl refl, (bytes_eq-Decides _ c).0 h)
   | inr h ↦ (let w = line_member c lines h in (w.0, inr w.1, w.2))
 ]
 
 pub member_line : (l : ShownLanding) (lines : List ShownLanding) → Member l lines → has_line lines l.callsign ≡ true
 member_line l [] m = absurd m
-member_line l (x ∷ lines) (inl e) = or_left (bytes_eq x.callsign l.callsign) (has_line lines l.callsign)
-    ((bytes_eq-Decides x.callsign l.callsign).1 (ap (λ (y : ShownLanding). y.callsign) (sym e)))
-member_line l (x ∷ lines) (inr m) =
-    or_right (bytes_eq x.callsign l.callsign) (has_line lines l.callsign) (member_line l lines m)
+member_line l (x ∷ lines) (inl e) = or_left _ _
+    ((bytes_eq-Decides _ _).1 (ap (λ (y : ShownLanding). y.callsign) (sym e)))
+member_line l (x ∷ lines) (inr m) = or_right _ _ (member_line l lines m)
 
 -- no callsign stands twice
 pub twice_none : (seen lines : List ShownLanding) → twice_after seen lines ≡ []
@@ -76,19 +73,14 @@ pub twice_none : (seen lines : List ShownLanding) → twice_after seen lines ≡
     × Each (λ l m. l.callsign ≢ m.callsign) lines
 twice_none seen [] e = (λ l m. absurd m, tt)
 twice_none seen (x ∷ lines) e = elim (cases_Bool (has_line seen x.callsign)) [
-  | inl q ↦ absurd (cons_nil (Twice x.callsign) (twice_after (x ∷ seen) lines) (rw q at e))
+  | inl q ↦ absurd (cons_nil _ _ (rw q at e))
   | inr q ↦
-      (let w = twice_none (x ∷ seen) lines (rw q at e) in (
+      (let w = twice_none _ lines (rw q at e) in (
         λ l m. elim m [
           | inl s ↦ rw s q
-          | inr k ↦
-              (or_parts (bytes_eq x.callsign l.callsign) (has_line seen l.callsign) (w.0 l k)).1
+          | inr k ↦ (or_parts _ _ (w.0 l k)).1
         ],
-        (
-          λ l k s. false≢true (sym (or_parts (bytes_eq x.callsign l.callsign) (has_line seen l.callsign) (w.0 l k)).0
-              ∙ (bytes_eq-Decides x.callsign l.callsign).1 s),
-          w.1,
-        ),
+        (λ l k s. false≢true (sym (or_parts _ _ (w.0 l k)).0 ∙ (bytes_eq-Decides _ _).1 s), w.1),
       ))
 ]
 
@@ -97,10 +89,8 @@ pub none_twice : (seen lines : List ShownLanding)
     → Each (λ l m. l.callsign ≢ m.callsign) lines → twice_after seen lines ≡ []
 none_twice seen [] h e = refl
 none_twice seen (x ∷ lines) h e = ap (λ b. cond b (Twice x.callsign ∷ twice_after (x ∷ seen) lines)
-    (twice_after (x ∷ seen) lines)) (h x (inl refl))
-    ∙ none_twice (x ∷ seen) lines (λ l m. or_from (bytes_eq x.callsign l.callsign) (has_line seen l.callsign)
-    (false_from_ne_true (bytes_eq x.callsign l.callsign)
-    (λ q. e.0 l m ((bytes_eq-Decides x.callsign l.callsign).0 q))) (h l (inr m))) e.1
+    (twice_after (x ∷ seen) lines)) (h x (inl refl)) ∙ none_twice _ lines (λ l m. or_from _ _ (false_from_ne_true _
+    (λ q. e.0 l m ((bytes_eq-Decides _ _).0 q))) (h l (inr m))) e.1
 
 -- the second of a callsign's line
 abbrev pub second_in : List ShownLanding → Callsign → ℕ
@@ -111,11 +101,10 @@ pub second_at : (lines : List ShownLanding) → Each (λ l m. l.callsign ≢ m.c
     → Member l lines → second_in lines l.callsign ≡ l.second
 second_at [] e l m = absurd m
 second_at (x ∷ lines) e l (inl s) = ap (λ b. cond b x.second (second_in lines l.callsign))
-    ((bytes_eq-Decides x.callsign l.callsign).1 (ap (λ (y : ShownLanding). y.callsign) (sym s)))
+    ((bytes_eq-Decides _ _).1 (ap (λ (y : ShownLanding). y.callsign) (sym s)))
     ∙ ap (λ (y : ShownLanding). y.second) (sym s)
 second_at (x ∷ lines) e l (inr m) = ap (λ b. cond b x.second (second_in lines l.callsign))
-    (false_from_ne_true (bytes_eq x.callsign l.callsign) (λ q. e.0 l m ((bytes_eq-Decides x.callsign l.callsign).0 q)))
-    ∙ second_at lines e.1 l m
+    (false_from_ne_true _ (λ q. e.0 l m ((bytes_eq-Decides _ _).0 q))) ∙ second_at lines e.1 l m
 
 -- ---- the order of lines
 
@@ -123,26 +112,25 @@ pub order_strict : (i t : ℕ) (fs : List Landing) → disordered_from i t (map 
     → ((g : Landing) → Member g fs → t < g.second) × Strict fs
 order_strict i t [] e = (λ g m. absurd m, tt)
 order_strict i t (f ∷ fs) e = elim (cases_lt t f.second) [
-  | inl lt ↦ (let w = order_strict (i + 1) f.second fs (rw (lt-ltb t f.second lt) at e) in
-      (λ g m. elim m [ inl s ↦ rw s lt | inr k ↦ (let a = w.0 g k in omega arith) ], w))
-  | inr le ↦ absurd (cons_nil (Order i) (disordered_from (i + 1) f.second (map shown_landing fs))
-      (rw (le-ltb t f.second le) at e))
+  | inl lt ↦ (let w = order_strict (i + 1) _ fs (rw (lt-ltb t _ lt) at e) in
+      (λ g m. elim m [ inl s ↦ rw s lt | inr k ↦ (omega (arith, w.0 g k)) ], w))
+  | inr le ↦ absurd (cons_nil _ _ (rw (le-ltb t _ le) at e))
 ]
 
 pub strict_from : (i t : ℕ) (fs : List Landing) → ((g : Landing) → Member g fs → t < g.second)
     → Strict fs → disordered_from i t (map shown_landing fs) ≡ []
 strict_from i t [] h e = refl
 strict_from i t (f ∷ fs) h e = ap (λ b. cond b (disordered_from (i + 1) f.second (map shown_landing fs))
-    (Order i ∷ disordered_from (i + 1) f.second (map shown_landing fs))) (lt-ltb t f.second (h f (inl refl)))
-    ∙ strict_from (i + 1) f.second fs e.0 e.1
+    (Order i ∷ disordered_from (i + 1) f.second (map shown_landing fs))) (lt-ltb t _ (h f (inl refl)))
+    ∙ strict_from (i + 1) _ fs e.0 e.1
 
 pub lines_strict : (fs : List Landing) → disordered (map shown_landing fs) ≡ [] → Strict fs
 lines_strict [] e = tt
-lines_strict (f ∷ fs) e = order_strict 2 f.second fs e
+lines_strict (f ∷ fs) e = order_strict 2 _ fs e
 
 pub strict_lines : (fs : List Landing) → Strict fs → disordered (map shown_landing fs) ≡ []
 strict_lines [] e = refl
-strict_lines (f ∷ fs) e = strict_from 2 f.second fs e.0 e.1
+strict_lines (f ∷ fs) e = strict_from 2 _ fs e.0 e.1
 
 -- ---- a block and its landings
 
@@ -174,7 +162,7 @@ lines_marks s [] h = refl
 lines_marks s (x ∷ fs) h =
     let w = h x (inl refl) in
     let test = λ (y : ShownLanding × Active). is_marked y in
-    let made = λ (y : ShownLanding × Active). Mark y.0.callsign in
+    let made = λ (y : ShownLanding × Active). Mark _ in
     ap (λ o. for_failing test made (cons_option (option_map (λ a. (shown_landing x, a)) o)
     (lines_found s.active (map shown_landing fs)))) w.1
     ∙ ap (λ b. cond b (for_failing test made (lines_found s.active (map shown_landing fs)))
@@ -190,36 +178,32 @@ pub landings_lines : (s : Situation) (ls : List ShownLanding)
 landings_lines s [] h e = refl
 landings_lines s (l ∷ ls) h e =
     let test = λ (y : ShownLanding × Active). is_marked y in
-    let made = λ (y : ShownLanding × Active). Mark y.0.callsign in
-    let w = any_found l.callsign s.active (h l (inl refl)) in
-    let m = find_some l.callsign s.active w.0 w.1 in
-    let e' : cond (test (l, w.0)) (for_failing test made (lines_found s.active ls))
-    (Mark l.callsign ∷ for_failing test made (lines_found s.active ls)) ≡ [] =
+    let made = λ (y : ShownLanding × Active). Mark _ in
+    let w = any_found _ s.active (h l (inl refl)) in
+    let e' =
     sym (ap (λ o. for_failing test made (cons_option (option_map (λ a. (l, a)) o) (lines_found s.active ls))) w.1)
     ∙ e in
-    let t = marked l w.0 (for_failing test made (lines_found s.active ls)) e' in
+    let t = marked l w.0 _ e' in
     ap (λ o. map shown_landing (map landing_of (cons_option (option_map (λ a. (l, a)) o) (lines_found s.active ls))))
-    w.1
-    ∙ ap₂ (λ (y : ShownLanding) (k : List ShownLanding). y ∷ k)
-    (ap₂ (λ (c : Callsign) (b : Bool). record l { callsign = c; frozen = b }) m.1 (sym t.0))
+    w.1 ∙ ap₂ (λ (y : ShownLanding) (k : List ShownLanding). y ∷ k)
+    (ap₂ (λ (c : Callsign) (b : Bool). record l { callsign = c; frozen = b }) (find_some _ _ w.0 w.1).1 (sym t.0))
     (landings_lines s ls (λ k i. h k (inr i)) t.1)
   where
     marked : (l : ShownLanding) (a : Active) (rest : List Finding)
         → cond (is_marked (l, a)) rest (Mark l.callsign ∷ rest) ≡ [] → (l.frozen ≡ not (is_waiting a)) × (rest ≡ [])
-    marked l a rest e = go l.frozen (is_waiting a) e
+    marked l a rest e = go _ _ e
       where
         go : (b c : Bool) → cond (cond b (not c) c) rest (Mark l.callsign ∷ rest) ≡ [] → (b ≡ not c) × (rest ≡ [])
-        go true true e = absurd (cons_nil (Mark l.callsign) rest e)
+        go true true e = absurd (cons_nil _ _ e)
         go true false e = (refl, e)
         go false true e = (refl, e)
-        go false false e = absurd (cons_nil (Mark l.callsign) rest e)
+        go false false e = absurd (cons_nil _ _ e)
 
 pub each_map : (R : Landing → Landing → Type 0) (F : ℕ → Landing) (xs : List ℕ) → Distinct xs
     → ((i j : ℕ) → In i xs → In j xs → i ≢ j → R (F i) (F j)) → Each R (map F xs)
 each_map R F [] d h = tt
 each_map R F (x ∷ xs) d h = (
-  λ y m. let w = in_map F xs y m in subst (R (F x)) (sym w.2)
-      (h x w.0 (inl refl) (inr w.1) (λ e. d.0 (subst (λ z. In z xs) (sym e) w.1))),
+  λ y m. let w = in_map F xs y m in rw w.2 (h x w.0 (inl refl) (inr w.1) (λ e. d.0 (rw e w.1))),
   each_map R F xs d.1 (λ i j mi mj ne. h i j (inr mi) (inr mj) ne),
 )
 
@@ -227,9 +211,8 @@ pub each_lines : (fs : List Landing) → Strict fs → ((x y : Landing) → Memb
     → x.flight.callsign ≡ y.flight.callsign → x ≡ y) → Each (λ l m. l.callsign ≢ m.callsign) (map shown_landing fs)
 each_lines [] e h = tt
 each_lines (f ∷ fs) e h = (
-  λ l m q. let w = in_map shown_landing fs l m in let s = h f w.0 (inl refl) (inr w.1)
-      (q ∙ ap (λ (y : ShownLanding). y.callsign) w.2) in let lt = e.0 w.0 w.1 in let z =
-      ap (λ (y : Landing). y.second) s in omega arith,
+  λ l m q. let w = in_map _ fs l m in let s = h f w.0 (inl refl) (inr w.1)
+      (cc) in let z = ap (λ (y : Landing). y.second) s in omega arith,
   each_lines fs e.1 (λ x y i j. h x y (inr i) (inr j)),
 )
 

@@ -1,5 +1,5 @@
 -- When lists of findings are empty.
-use Rattle.std.proofs.Common.{◌≡◌, ◌⊎◌, inl, inr, List, [], ◌∷◌, ◌++◌, cond, Bool, true, refl, sym, ap, ap₂, subst, ◌∙◌}
+use Rattle.std.proofs.Common.{◌≡◌, ◌⊎◌, inl, inr, List, [], ◌∷◌, ◌++◌, cond, Bool, true, refl, sym, ap, ◌∙◌}
 use Rattle.std.specs.Prelude.{flat_map}
 use Rattle.std.specs.Str.{bytes_eq}
 use Rattle.std.specs.List.{list_any}
@@ -18,7 +18,7 @@ append_nil [] ys e = (refl, e)
 append_nil (x ∷ xs) ys e = cc
 
 pub nil_append : (xs ys : List Finding) → xs ≡ [] → ys ≡ [] → xs ++ ys ≡ []
-nil_append xs ys e f = ap₂ (λ (a b : List Finding). a ++ b) e f
+nil_append xs ys e f = cc
 
 pub or_else_nil : (xs ys : List Finding) → or_else xs ys ≡ [] → (xs ≡ []) × (ys ≡ [])
 or_else_nil [] ys e = (refl, e)
@@ -30,57 +30,54 @@ cons_nil x xs e = cc
 pub broken_none : {X : Type 0} (holds : X → Bool) (f : X → Finding) (xs : List X) → for_failing holds f xs ≡ []
     → (x : X) → Member x xs → holds x ≡ true
 broken_none holds f [] e x m = absurd m
-broken_none holds f (y ∷ ys) e x m = elim (cases_Bool (holds y)) [
-  | inl q ↦ elim m [ inl s ↦ ap holds s ∙ q | inr k ↦ broken_none holds f ys (rw q at e) x k ]
-  | inr q ↦ absurd (cons_nil (f y) (for_failing holds f ys) (rw q at e))
+broken_none holds f (y ∷ ys) e x m = elim (cases_Bool _) [
+  | inl q ↦ elim m [ inl s ↦ ap holds s ∙ q | inr k ↦ broken_none _ f ys (rw q at e) x k ]
+  | inr q ↦ absurd (cons_nil _ _ (rw q at e))
 ]
 
 pub none_broken : {X : Type 0} (holds : X → Bool) (f : X → Finding) (xs : List X)
     → ((x : X) → Member x xs → holds x ≡ true) → for_failing holds f xs ≡ []
 none_broken holds f [] h = refl
 none_broken holds f (y ∷ ys) h = ap (λ b. cond b (for_failing holds f ys) (f y ∷ for_failing holds f ys))
-    (h y (inl refl)) ∙ none_broken holds f ys (λ x m. h x (inr m))
+    (h y (inl refl)) ∙ none_broken _ f ys (λ x m. h x (inr m))
 
 pub pairs_none : {X : Type 0} (holds : X → X → Bool) (f : X → X → Finding) (xs : List X)
     → for_failing_pairs holds f xs ≡ [] → Each (λ x y. holds x y ≡ true) xs
 pairs_none holds f [] e = tt
-pairs_none holds f (x ∷ xs) e = let a = append_nil (for_failing (holds x) (f x) xs) (for_failing_pairs holds f xs) e in
-    (broken_none (holds x) (f x) xs a.0, pairs_none holds f xs a.1)
+pairs_none holds f (x ∷ xs) e = let a = append_nil _ _ e in
+    (broken_none _ _ xs a.0, pairs_none _ f xs a.1)
 
 pub none_pairs : {X : Type 0} (holds : X → X → Bool) (f : X → X → Finding) (xs : List X)
     → Each (λ x y. holds x y ≡ true) xs → for_failing_pairs holds f xs ≡ []
 none_pairs holds f [] e = refl
-none_pairs holds f (x ∷ xs) e = nil_append (for_failing (holds x) (f x) xs) (for_failing_pairs holds f xs)
-    (none_broken (holds x) (f x) xs e.0) (none_pairs holds f xs e.1)
+none_pairs holds f (x ∷ xs) e = nil_append _ _ (none_broken _ _ xs e.0) (none_pairs _ f xs e.1)
 
 pub each_pair : {X : Type 0} (R : X → X → Type 0) (xs : List X) → Each R xs → (x y : X) → Member x xs
     → Member y xs → (x ≡ y) ⊎ (R x y ⊎ R y x)
 each_pair R [] e x y i j = absurd i
 each_pair R (z ∷ zs) e x y (inl a) (inl b) = inl (a ∙ sym b)
-each_pair R (z ∷ zs) e x y (inl a) (inr j) = inr (inl (subst (λ w. R w y) (sym a) (e.0 y j)))
-each_pair R (z ∷ zs) e x y (inr i) (inl b) = inr (inr (subst (λ w. R w x) (sym b) (e.0 x i)))
+each_pair R (z ∷ zs) e x y (inl a) (inr j) = inr (inl (rw a (e.0 y j)))
+each_pair R (z ∷ zs) e x y (inr i) (inl b) = inr (inr (rw b (e.0 x i)))
 each_pair R (z ∷ zs) e x y (inr i) (inr j) = each_pair R zs e.1 x y i j
 
 pub flat_nil : {X : Type 0} (F : X → List Finding) (xs : List X) → flat_map F xs ≡ [] → (x : X) → Member x xs → F x ≡ []
 flat_nil F [] e x m = absurd m
-flat_nil F (y ∷ ys) e x (inl s) = ap F s ∙ (append_nil (F y) (flat_map F ys) e).0
-flat_nil F (y ∷ ys) e x (inr k) = flat_nil F ys (append_nil (F y) (flat_map F ys) e).1 x k
+flat_nil F (y ∷ ys) e x (inl s) = ap F s ∙ (append_nil _ _ e).0
+flat_nil F (y ∷ ys) e x (inr k) = flat_nil F ys (append_nil _ _ e).1 x k
 
 pub nil_flat : {X : Type 0} (F : X → List Finding) (xs : List X) → ((x : X) → Member x xs → F x ≡ [])
     → flat_map F xs ≡ []
 nil_flat F [] h = refl
-nil_flat F (y ∷ ys) h = nil_append (F y) (flat_map F ys) (h y (inl refl)) (nil_flat F ys (λ x m. h x (inr m)))
+nil_flat F (y ∷ ys) h = nil_append _ _ (h y (inl refl)) (nil_flat F ys (λ x m. h x (inr m)))
 
 pub any_member : (c : Callsign) (ds : List Callsign) → list_any (λ d. bytes_eq d c) ds ≡ true → Member c ds
 any_member c [] e = absurd (false≢true e)
-any_member c (d ∷ ds) e = elim (or_cases (bytes_eq d c) (list_any (λ x. bytes_eq x c) ds) e) [
-  | inl h ↦
-      inl (sym ((bytes_eq-Decides d c).0 h))
+any_member c (d ∷ ds) e = elim (or_cases _ _ e) [
+  | inl h ↦ inl (sym ((bytes_eq-Decides d c).0 h))
   | inr h ↦ inr (any_member c ds h)
 ]
 
 pub member_any : (c : Callsign) (ds : List Callsign) → Member c ds → list_any (λ d. bytes_eq d c) ds ≡ true
 member_any c [] m = absurd m
-member_any c (d ∷ ds) (inl e) =
-    or_left (bytes_eq d c) (list_any (λ x. bytes_eq x c) ds) ((bytes_eq-Decides d c).1 (sym e))
-member_any c (d ∷ ds) (inr m) = or_right (bytes_eq d c) (list_any (λ x. bytes_eq x c) ds) (member_any c ds m)
+member_any c (d ∷ ds) (inl e) = or_left _ _ ((bytes_eq-Decides d c).1 (sym e))
+member_any c (d ∷ ds) (inr m) = or_right _ _ (member_any c ds m)

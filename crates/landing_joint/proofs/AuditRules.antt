@@ -1,6 +1,6 @@
 -- No finding by the rules exactly where the landings keep them.
-use Rattle.std.proofs.Common.{◌≡◌, ℕ, ◌≤◌, ◌⊎◌, inl, inr, List, [], ◌∷◌, ◌++◌, filter, Bool, true, false, not, ◌||◌}
-use Rattle.std.proofs.Common.{nat_le, nat_lt, nat_eq, refl, sym, ap, subst}
+use Rattle.std.proofs.Common.{◌≡◌, ℕ, ◌≤◌, ◌⊎◌, inl, inr, List, [], ◌∷◌, filter, Bool, true, false, not, ◌||◌}
+use Rattle.std.proofs.Common.{nat_le, nat_lt, nat_eq, refl, sym, subst}
 use Rattle.std.specs.Prelude.{unwrap_or, is_none, flat_map, All, IsTrue, MatchOption, Option, Some, None}
 use Rattle.std.specs.Str.{bytes_eq}
 use Rattle.std.proofs.lemmas.Slice.Eq.{bytes_eq-Decides}
@@ -12,8 +12,8 @@ use Rattle.landing_rules.specs.Rules.{IsPairInPrecedence, IsShiftKept, IsFrozenK
 use Rattle.landing_rules.specs.Testing.{is_pair_separated, is_shift_kept}
 use Rattle.landing_rules.specs.shared.Counting.{Member}
 use Rattle.landing_rules.specs.shared.Tests.{is_pair_separated-Decides, is_shift_kept-Decides}
-use Rattle.landing_rules.specs.Audit.{Closed, Separation, Precedence, Moved, Early, Shift, for_failing, closed}
-use Rattle.landing_rules.specs.Audit.{are_apart, unseparated, listed_late, late, moved, early, shifted, by_rules}
+use Rattle.landing_rules.specs.Audit.{Precedence, Moved, Early, Shift, for_failing}
+use Rattle.landing_rules.specs.Audit.{are_apart, listed_late, by_rules}
 use Rattle.landing_joint.specs.shared.OpenDays.{open_in_days}
 use Rattle.landing_joint.proofs.AuditLists.{append_nil, nil_append, broken_none, none_broken, Each, pairs_none}
 use Rattle.landing_joint.proofs.AuditLists.{none_pairs, each_pair, flat_nil, nil_flat, any_member, member_any}
@@ -33,20 +33,14 @@ pub rules_kept : (s : Situation) (all : List Landing)
     → ((f : Landing) → Member f all → All (λ w. (w.0 ≤ w.1) × (w.1 ≤ last_second)) f.flight.windows)
     → by_rules s all ≡ [] → KeepsRules s all
 rules_kept s all good e =
-    let a = append_nil (closed s all) (unseparated s.aerodrome.table all
-    ++ (late all ++ (moved all ++ (early (horizon s) all ++ shifted s.aerodrome.k (filter waits all))))) e in
-    let b = append_nil (unseparated s.aerodrome.table all) (late all
-    ++ (moved all ++ (early (horizon s) all ++ shifted s.aerodrome.k (filter waits all)))) a.1 in
-    let c = append_nil (late all) (moved all ++ (early (horizon s) all ++ shifted s.aerodrome.k (filter waits all)))
-    b.1 in
-    let d = append_nil (moved all) (early (horizon s) all ++ shifted s.aerodrome.k (filter waits all)) c.1 in
-    let g = append_nil (early (horizon s) all) (shifted s.aerodrome.k (filter waits all)) d.1 in
-    let opened = broken_none (λ (f : Landing). is_open f.flight.windows s.closures f.second)
-    (λ (f : Landing). Closed f.flight.callsign f.second) all a.0 in
-    let pairs = pairs_none (are_apart s.aerodrome.table)
-    (λ (f g : Landing). Separation f.flight.callsign g.flight.callsign) all b.0 in
+    let a = append_nil _ _ e in
+    let b = append_nil _ _ a.1 in
+    let c = append_nil _ _ b.1 in
+    let d = append_nil _ _ c.1 in
+    let g = append_nil _ _ d.1 in
+    let opened = broken_none _ _ all a.0 in
     let sep : (f h : Landing) → Member f all → Member h all → ArePairSeparated s.aerodrome.table f h =
-    λ f h i j. separated f h (each_pair (λ x y. are_apart s.aerodrome.table x y ≡ true) all pairs f h i j) in
+    λ f h i j. separated f h (each_pair _ all (pairs_none _ _ all b.0) f h i j) in
     record {
       in_days = all_from (λ f. f.second ≤ last_second) all
           (λ f m. open_in_days f.flight.windows s.closures f.second (good f m) (opened f m));
@@ -77,19 +71,16 @@ rules_kept s all good e =
   where
     separated : (f h : Landing) → (f ≡ h) ⊎ ((are_apart s.aerodrome.table f h ≡ true)
         ⊎ (are_apart s.aerodrome.table h f ≡ true)) → ArePairSeparated s.aerodrome.table f h
-    separated f h (inl q) = λ ne le. absurd (ne (ap (λ (x : Landing). x.flight.callsign) q))
-    separated f h (inr (inl q)) = (is_pair_separated-Decides s.aerodrome.table f h).0
+    separated f h (inl q) = λ ne le. absurd (ne (cc))
+    separated f h (inr (inl q)) = (is_pair_separated-Decides _ f h).0
         (and_parts (is_pair_separated s.aerodrome.table f h) (is_pair_separated s.aerodrome.table h f) q).0
-    separated f h (inr (inr q)) = (is_pair_separated-Decides s.aerodrome.table f h).0
+    separated f h (inr (inr q)) = (is_pair_separated-Decides _ f h).0
         (and_parts (is_pair_separated s.aerodrome.table h f) (is_pair_separated s.aerodrome.table f h) q).1
 
     late_named : (c : Callsign) (d : Landing) → listed_late all d c ≡ []
         → for_failing (λ (k : Landing). not (bytes_eq k.flight.callsign c) || nat_lt k.second d.second)
         (λ (k : Landing). Precedence k.flight.callsign d.flight.callsign) all ≡ []
-    late_named c d q = none_broken (λ (k : Landing). not (bytes_eq k.flight.callsign c) || nat_lt k.second d.second)
-        (λ (k : Landing). Precedence k.flight.callsign d.flight.callsign) all
-        (broken_none (λ (k : Landing). not (bytes_eq k.flight.callsign c) || nat_lt k.second d.second)
-        (λ (k : Landing). Precedence c d.flight.callsign) all q)
+    late_named c d q = none_broken _ _ all (broken_none _ _ all q)
 
     second_part : (a b : Bool) → a ≡ true → (not a || b) ≡ true → b ≡ true
     second_part true b p q = q
@@ -97,47 +88,21 @@ rules_kept s all good e =
 
 pub kept_rules : (s : Situation) (all : List Landing) → KeepsRules s all → by_rules s all ≡ []
 kept_rules s all r =
-    nil_append (closed s all) (unseparated s.aerodrome.table all
-    ++ (late all ++ (moved all ++ (early (horizon s) all ++ shifted s.aerodrome.k (filter waits all)))))
-    (none_broken (λ (f : Landing). is_open f.flight.windows s.closures f.second)
-    (λ (f : Landing). Closed f.flight.callsign f.second) all
-    (all_at (λ f. IsTrue (is_open f.flight.windows s.closures f.second)) all r.open_seconds))
-    (nil_append (unseparated s.aerodrome.table all) (late all
-    ++ (moved all ++ (early (horizon s) all ++ shifted s.aerodrome.k (filter waits all))))
-    (none_pairs (are_apart s.aerodrome.table) (λ (f g : Landing). Separation f.flight.callsign g.flight.callsign) all
-    (every all (λ f m. m)))
-    (nil_append (late all) (moved all ++ (early (horizon s) all ++ shifted s.aerodrome.k (filter waits all)))
-    (nil_flat (λ (d : Landing). flat_map (listed_late all d) d.flight.after) all
-    (λ d j. nil_flat (listed_late all d) d.flight.after (λ c k.
-    none_broken (λ (f : Landing). not (bytes_eq f.flight.callsign c) || nat_lt f.second d.second)
-    (λ (f : Landing). Precedence c d.flight.callsign) all (λ f i.
-    either (bytes_eq f.flight.callsign c) (nat_lt f.second d.second)
-    (λ q. lt-ltb f.second d.second
+    nil_append _ _ (none_broken _ _ all (all_at _ all r.open_seconds)) (nil_append _ _ (none_pairs _ _ all
+    (every all (λ f m. m))) (nil_append _ _ (nil_flat _ all (λ d j. nil_flat _ _ (λ c k. none_broken _ _ all (λ f i.
+    either _ _ (λ q. lt-ltb _ _
     (all_at (IsPairInPrecedence f) all (all_at (λ g. All (IsPairInPrecedence g) all) all r.in_precedence f i) d j
-    (member_any f.flight.callsign d.flight.after
-    (subst (λ x. Member x d.flight.after) (sym ((bytes_eq-Decides f.flight.callsign c).0 q)) k))))))))
-    (nil_append (moved all) (early (horizon s) all ++ shifted s.aerodrome.k (filter waits all))
-    (none_broken (λ (f : Landing). waits f || nat_eq f.second (unwrap_or f.frozen 0))
-    (λ (f : Landing). Moved f.flight.callsign (unwrap_or f.frozen 0)) all
-    (λ f m. (test_frozen f.frozen (horizon s) f.second
-    (all_at (IsFrozenKept (horizon s)) all r.frozen_kept f m)).0))
-    (nil_append (early (horizon s) all) (shifted s.aerodrome.k (filter waits all))
-    (none_broken (λ (f : Landing). not (waits f) || nat_le (horizon s) f.second)
-    (λ (f : Landing). Early f.flight.callsign) all
-    (λ f m. (test_frozen f.frozen (horizon s) f.second
-    (all_at (IsFrozenKept (horizon s)) all r.frozen_kept f m)).1))
-    (none_broken (is_shift_kept s.aerodrome.k (filter waits all))
-    (λ (f : Landing). Shift f.flight.callsign (place (filter waits all) f) (rank_among (filter waits all) f))
-    (filter waits all) (λ f m. (is_shift_kept-Decides s.aerodrome.k (filter waits all) f).1
-    (all_at (IsShiftKept s.aerodrome.k (filter waits all)) (filter waits all) r.shift f m)))))))
+    (member_any _ _ (subst (λ x. Member x d.flight.after) (sym ((bytes_eq-Decides _ c).0 q)) k)))))))) (nil_append _ _
+    (none_broken _ _ all (λ f m. (test_frozen _ _ _ (all_at (IsFrozenKept (horizon s)) all r.frozen_kept f m)).0))
+    (nil_append _ _ (none_broken _ _ all (λ f m. (test_frozen _ _ _
+    (all_at (IsFrozenKept (horizon s)) all r.frozen_kept f m)).1)) (none_broken _ _
+    _ (λ f m. (is_shift_kept-Decides _ (filter _ all) f).1
+    (all_at (IsShiftKept s.aerodrome.k (filter _ all)) _ r.shift f m)))))))
   where
     both : (f g : Landing) → Member f all → Member g all → are_apart s.aerodrome.table f g ≡ true
-    both f g i j = and_from (is_pair_separated s.aerodrome.table f g) (is_pair_separated s.aerodrome.table g f)
-        ((is_pair_separated-Decides s.aerodrome.table f g).1
-        (all_at (ArePairSeparated s.aerodrome.table f) all
+    both f g i j = and_from _ _ ((is_pair_separated-Decides _ f g).1 (all_at (ArePairSeparated s.aerodrome.table f) all
         (all_at (λ x. All (ArePairSeparated s.aerodrome.table x) all) all r.separated f i) g j))
-        ((is_pair_separated-Decides s.aerodrome.table g f).1
-        (all_at (ArePairSeparated s.aerodrome.table g) all
+        ((is_pair_separated-Decides _ g f).1 (all_at (ArePairSeparated s.aerodrome.table g) all
         (all_at (λ x. All (ArePairSeparated s.aerodrome.table x) all) all r.separated g j) f i))
 
     every : (fs : List Landing) → ((f : Landing) → Member f fs → Member f all)

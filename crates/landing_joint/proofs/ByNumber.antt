@@ -1,7 +1,7 @@
 -- The waiting flights by rank, as numbers.
 use Rattle.std.proofs.Common.{◌≡◌, ℕ, zero, suc, ◌<◌, ◌≤◌, ◌⊎◌, inl, inr, List, [], ◌∷◌, length, get_or, map, cond}
-use Rattle.std.proofs.Common.{Bool, true, false, not, zero-le, arith, refl, sym, ap, ap₂, subst, ◌∙◌}
-use Rattle.std.specs.Prelude.{is_none, unwrap_or, Some, None, IsPermutation, slice_get}
+use Rattle.std.proofs.Common.{Bool, true, false, zero-le, arith, refl, sym, ap, ap₂, ◌∙◌}
+use Rattle.std.specs.Prelude.{unwrap_or, Some, None, IsPermutation, slice_get}
 use Rattle.std.specs.Ordering.{is_lt}
 use Rattle.std.proofs.lemmas.Bool.{cases_Bool}
 use Rattle.std.proofs.lemmas.List.Sorted.{IsPermutation-sym}
@@ -13,7 +13,7 @@ use Rattle.landing_rules.specs.shared.Counting.{Member}
 use Rattle.landing_rules.specs.Problem as lists'
 use Rattle.landing_rules.specs.Sound.{IsSound}
 use Rattle.cps_theory.specs.RankLists.{In, Distinct, Ordered}
-use Rattle.landing_joint.specs.Numbered.{numbered, numbers_of, waits_at, comes_before, numbered_situation}
+use Rattle.landing_joint.specs.Numbered.{numbered, numbers_of, comes_before, numbered_situation}
 use Rattle.landing_joint.specs.ByNumber.{insert_number, numbers_by_rank}
 use Rattle.landing_joint.proofs.Joint.{comes_is, first_come, frozen_each}
 use Rattle.cps_theory.specs.laws.Members.{filter_in}
@@ -29,36 +29,31 @@ abbrev earlier : List Active → ℕ → ℕ → Bool
 earlier all j i = is_lt (arrival_cmp (numbered all j).flight (numbered all i).flight)
 
 insert_in : (all : List Active) (i x : ℕ) (js : List ℕ) → In x (insert_number all i js) → (x ≡ i) ⊎ In x js
-insert_in all i x js = member_permutation (insert_number all i js) (i ∷ js) x
-    (IsPermutation-sym (i ∷ js) (insert_number all i js)
-    (insert_moves (earlier all) (insert_number all) (λ y. refl) (λ y z zs. refl) i js))
+insert_in all i x js = member_permutation _ _ x (IsPermutation-sym (i ∷ js) (insert_number all i js)
+    (insert_moves _ (insert_number all) (λ y. refl) (λ y z zs. refl) i js))
 
 pub sorted_permutes : (all : List Active) (js : List ℕ) → IsPermutation js (numbers_by_rank all js)
-sorted_permutes all = sort_moves (earlier all) (insert_number all) (λ y. refl) (λ y z zs. refl)
-    (numbers_by_rank all) refl (λ y ys. refl)
+sorted_permutes all = sort_moves _ (insert_number all) (λ y. refl) (λ y z zs. refl) _ refl (λ y ys. refl)
 
 pub sorted_in : (all : List Active) (x : ℕ) (js : List ℕ) → In x (numbers_by_rank all js) → In x js
-sorted_in all x js = member_permutation (numbers_by_rank all js) js x
-    (IsPermutation-sym js (numbers_by_rank all js) (sorted_permutes all js))
+sorted_in all x js = member_permutation _ js x (IsPermutation-sym js (numbers_by_rank all js) (sorted_permutes all js))
 
 pub in_sorted : (all : List Active) (x : ℕ) (js : List ℕ) → In x js → In x (numbers_by_rank all js)
-in_sorted all x js = member_permutation js (numbers_by_rank all js) x (sorted_permutes all js)
+in_sorted all x js = member_permutation js _ x (sorted_permutes all js)
 
 -- the flights of the numbers by rank are the flights by rank
 map_insert : (all : List Active) (i : ℕ) (js : List ℕ)
     → map (numbered all) (insert_number all i js) ≡ lists'.insert_by_rank (numbered all i) (map (numbered all) js)
 map_insert all i [] = refl
 map_insert all i (j ∷ js) = elim (cases_Bool (earlier all j i)) [
-  | inl e ↦
-      rw e (ap (λ l. numbered all j ∷ l) (map_insert all i js))
+  | inl e ↦ rw e (ap (λ l. numbered all j ∷ l) (map_insert all i js))
   | inr e ↦ rw e
 ]
 
 pub map_sorted : (all : List Active) (js : List ℕ)
     → map (numbered all) (numbers_by_rank all js) ≡ lists'.by_rank (map (numbered all) js)
 map_sorted all [] = refl
-map_sorted all (j ∷ js) = map_insert all j (numbers_by_rank all js)
-    ∙ ap (lists'.insert_by_rank (numbered all j)) (map_sorted all js)
+map_sorted all (j ∷ js) = map_insert all j _ ∙ ap (lists'.insert_by_rank (numbered all j)) (map_sorted all js)
 
 module _ (s : Situation) (sound : IsSound s) where
   insert_ordered : (i : ℕ) (js : List ℕ) → In i (numbers_of s.active) → ((j : ℕ) → In j js → In j (numbers_of s.active))
@@ -66,15 +61,14 @@ module _ (s : Situation) (sound : IsSound s) where
       → Ordered (comes_before s.active) (insert_number s.active i js)
   insert_ordered i [] mi mj new o = (λ y k. absurd k, tt)
   insert_ordered i (j ∷ js) mi mj new o =
-      go (is_lt (arrival_cmp (numbered s.active j).flight (numbered s.active i).flight))
+      go _
       (comes_is s sound j i (mj j (inl refl)) mi) (insert_ordered i js mi (λ k m. mj k (inr m)) (λ m. new (inr m)) o.1)
     where
       go : (b : Bool) → comes_before s.active j i ≡ b → Ordered (comes_before s.active) (insert_number s.active i js)
           → Ordered (comes_before s.active) (cond b (j ∷ insert_number s.active i js) (i ∷ j ∷ js))
       go true e ih = (
         λ y k. elim (insert_in s.active i y js k) [
-          | inl q ↦ subst (λ z. comes_before s.active j z ≡ true)
-              (sym q) e
+          | inl q ↦ rw q e
           | inr m ↦ o.0 y m
         ],
         ih,
@@ -82,9 +76,8 @@ module _ (s : Situation) (sound : IsSound s) where
       go false e ih =
           let ij : comes_before s.active i j ≡ true = (first_come s.active).total j i (λ q. new (inl (sym q))) e in (
             λ y k. elim k [
-              | inl q ↦ subst (λ z. comes_before s.active i z ≡ true) (sym q) ij
-              | inr m ↦
-                  (first_come s.active).chain i j y ij (o.0 y m)
+              | inl q ↦ rw q ij
+              | inr m ↦ (first_come s.active).chain i j y ij (o.0 y m)
             ],
             o,
           )
@@ -92,7 +85,7 @@ module _ (s : Situation) (sound : IsSound s) where
   pub sorted_ordered : (js : List ℕ) → ((j : ℕ) → In j js → In j (numbers_of s.active)) → Distinct js
       → Ordered (comes_before s.active) (numbers_by_rank s.active js)
   sorted_ordered [] mj d = tt
-  sorted_ordered (j ∷ js) mj d = insert_ordered j (numbers_by_rank s.active js) (mj j (inl refl))
+  sorted_ordered (j ∷ js) mj d = insert_ordered j _ (mj j (inl refl))
       (λ k m. mj k (inr (sorted_in s.active k js m))) (λ m. d.0 (sorted_in s.active j js m))
       (sorted_ordered js (λ k m. mj k (inr m)) d.1)
 
@@ -116,20 +109,18 @@ last_rises (f ∷ []) r = inr (
   inl refl,
   refl,
   λ g m. elim m [
-    | inl e ↦
-        (let a = ap (λ (y : Landing). y.second) e in omega arith)
+    | inl e ↦ (omega (arith, ap (λ (y : Landing). y.second) e))
     | inr k ↦ absurd k
   ],
 )
-last_rises (f ∷ x ∷ fs) r = elim (last_rises (x ∷ fs) r.1) [
+last_rises (f ∷ x ∷ fs) r = elim (last_rises _ r.1) [
   | inl e ↦ absurd (cons_nil x fs e)
   | inr w ↦ inr (
     w.0,
     inr w.1,
     w.2,
     λ g m. elim m [
-      | inl e ↦ (let a = ap (λ (y : Landing). y.second) e in let b =
-          r.0 w.0 w.1 in omega arith)
+      | inl e ↦ (omega (arith, ap (λ (y : Landing). y.second) e))
       | inr k ↦ w.3 g k
     ],
   )
@@ -150,28 +141,22 @@ module _ (s : Situation) (sound : IsSound s) where
       → (numbered_situation s).frozen_at j ≤ (numbered_situation s).frozen_at i))
   last_frozen_is =
       let fl = frozen_landings s in
-      elim (last_rises (in_landing_order fl) (order_rises fl)) [
+      elim (last_rises _ (order_rises fl)) [
         | inl e ↦ inl (
           ap lists'.last_of e,
-          λ i m. frozen_each s sound (λ g. ⊥)
-              (all_from (λ g. ⊥) fl (λ g k. subst (Member g) e (member_order g fl k))) i m,
+          λ i m. frozen_each s sound (λ g. ⊥) (all_from _ fl (λ g k. rw e at (member_order g fl k))) i m,
         )
         | inr w ↦
-            (let v = frozen_member w.0 s.active (order_member w.0 fl w.1) in
+            (let v = frozen_member w.0 _ (order_member w.0 fl w.1) in
             let i = v.0 in
-            let n = numbers_in 0 (length s.active) i zero-le (let l = v.1 in omega arith) in
-            let m : In i (numbered_situation s).frozen =
-            filter_in (λ x. not (waits_at s.active x)) i (numbers_of s.active) n (ap (λ o. not (is_none o)) v.3) in
-            let at : (numbered_situation s).frozen_at i ≡ v.2 = ap (λ o. unwrap_or o 0) v.3 in
-            let sec : w.0.second ≡ (numbered_situation s).frozen_at i = ap (λ (g : Landing). g.second) v.4 ∙ sym at in
-            let cat : w.0.flight.category ≡ (numbered s.active i).flight.category =
-            ap (λ (g : Landing). g.flight.category) v.4 in
+            let m = filter_in _ i _ (numbers_in 0 (length s.active) i zero-le (omega arith)) (cc) in
+            let at = ap (λ o. unwrap_or o 0) v.3 in
+            let sec = ap (λ (g : Landing). g.second) v.4 ∙ sym at in
             inr (
               i,
               m,
-              w.2 ∙ ap₂ (λ (x : ℕ) (y : Category). Some (x, y)) sec cat,
-              λ j k. subst (λ x. (numbered_situation s).frozen_at j ≤ x) sec
-                  (frozen_each s sound (λ g. g.second ≤ w.0.second)
-                  (all_from (λ g. g.second ≤ w.0.second) fl (λ g k. w.3 g (member_order g fl k))) j k),
+              w.2 ∙ ap₂ (λ (x : ℕ) (y : Category). Some (x, y)) sec (ap (λ (g : Landing). g.flight.category) v.4),
+              λ j k. rw sec at (frozen_each s sound (λ g. g.second ≤ w.0.second)
+                  (all_from _ fl (λ g k. w.3 g (member_order g fl k))) j k),
             ))
       ]

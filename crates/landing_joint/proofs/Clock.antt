@@ -8,10 +8,10 @@ use Rattle.std.specs.Ordering.{is_lt, ordering_then, nat_cmp}
 use Rattle.wake_table.specs.Table.{separation}
 use Rattle.landing_rules.specs.declared.objective.Objective.{Objective}
 use Rattle.landing_rules.specs.declared.objective.Objective.TheVariants.{Makespan, Delay}
-use Rattle.landing_rules.specs.Flights.{Flight, Active, Situation, Schedule, Landing, landing, landings, is_waiting}
+use Rattle.landing_rules.specs.Flights.{Flight, Active, Situation, Schedule, Landing, landing, landings}
 use Rattle.landing_rules.specs.Flights.{waiting, horizon, horizon_after}
 use Rattle.landing_rules.specs.Rules.{last_second, is_open, lists, arrival_cmp, ArePairSeparated, IsPairInPrecedence}
-use Rattle.landing_rules.specs.Rules.{greatest, delay, cost, objective, IsFeasible}
+use Rattle.landing_rules.specs.Rules.{greatest, cost, objective, IsFeasible}
 use Rattle.landing_rules.specs.Events.{Clock, frozen_landings, freezes, after_clock, clock_back, ClockBack}
 use Rattle.landing_rules.specs.Events.{situation_after, IsPlanShown}
 use Rattle.landing_rules.specs.Sound.{IsGoodFlight, ListsNone, IsSound}
@@ -64,8 +64,7 @@ froze fl (Some v) pa sec m d c = record {
   flight = refl;
   waits = refl;
   second = λ e x. absurd (false≢true x);
-  was =
-      λ e. refl;
+  was = λ e. refl;
   passed = inl refl;
   counted = λ q x e. absurd (false≢true x);
 }
@@ -73,16 +72,14 @@ froze fl None pa sec m true c = record {
   flight = refl;
   waits = refl;
   second = λ e x. refl;
-  was =
-      λ e. absurd (false≢true (sym e));
+  was = λ e. absurd (cc);
   passed = inr (inl refl);
-  counted = λ q x e. absurd (false≢true (sym e));
+  counted = λ q x e. absurd (cc);
 }
 froze fl None pa sec m false true = record {
   flight = refl;
   waits = refl;
-  second =
-      λ e x. absurd (false≢true (sym e));
+  second = λ e x. absurd (cc);
   was = λ e. refl;
   passed = inr (inr (refl, refl));
   counted = λ q x e. refl;
@@ -90,8 +87,7 @@ froze fl None pa sec m false true = record {
 froze fl None pa sec m false false = record {
   flight = refl;
   waits = refl;
-  second =
-      λ e x. absurd (false≢true (sym e));
+  second = λ e x. absurd (cc);
   was = λ e. refl;
   passed = inl refl;
   counted = λ q x e. absurd (false≢true q);
@@ -115,12 +111,10 @@ module _ (s : Situation) (sound : IsSound s) (t : Schedule) (f : IsFeasible s t)
   ns = numbered_situation s
 
   after_is : after ≡ map (λ i. after_clock s.aerodrome h all (landing_at s.active t i)) (numbers_of s.active)
-  after_is = ap (map (after_clock s.aerodrome h all)) (landings_are s.active t f.0)
-      ∙ map_map (after_clock s.aerodrome h all) (landing_at s.active t) (numbers_of s.active)
+  after_is = ap (map _) (landings_are _ t f.0) ∙ map_map _ _ _
 
   pub length_after : length after ≡ length s.active
-  length_after = ap length after_is ∙ numbers_long (λ i. after_clock s.aerodrome h all (landing_at s.active t i)) 0
-      (length s.active)
+  length_after = ap length after_is ∙ numbers_long _ 0 _
 
   -- so the numbers stay
   pub numbers_after : numbers_of after ≡ numbers_of s.active
@@ -135,18 +129,11 @@ module _ (s : Situation) (sound : IsSound s) (t : Schedule) (f : IsFeasible s t)
       (second_of t i) (min s.aerodrome.k ((numbered s.active i).passed + count_passing i))
       (nat_lt (second_of t i) h) s.aerodrome.carry (numbered after i)
   at_after i m =
-      let b = in_numbers 0 (length s.active) i m in
-      let e : numbered after i ≡ after_clock s.aerodrome h all (landing_at s.active t i) =
-      ap (λ l. numbered l i) after_is
-      ∙ numbers_get (λ j. after_clock s.aerodrome h all (landing_at s.active t j)) nobody 0
-      (length s.active) i (omega (arith, b.1)) ∙ ap (λ j. after_clock s.aerodrome h all (landing_at s.active t j))
-      (omega arith) in
-      subst (λ a. Froze (numbered s.active i).flight (numbered s.active i).frozen (numbered s.active i).passed
-      (second_of t i) (min s.aerodrome.k ((numbered s.active i).passed + count_passing i))
-      (nat_lt (second_of t i) h) s.aerodrome.carry a) (sym e)
-      (froze (numbered s.active i).flight (numbered s.active i).frozen (numbered s.active i).passed
-      (second_of t i) (min s.aerodrome.k ((numbered s.active i).passed + count_passing i))
-      (nat_lt (second_of t i) h) s.aerodrome.carry)
+      let e =
+      ap (λ l. numbered l i) after_is ∙ numbers_get _ _ 0
+      (length s.active) i (omega (arith, (in_numbers 0 _ i m).1)) ∙ ap
+      (λ j. after_clock s.aerodrome h all (landing_at s.active t j)) (omega arith) in
+      rw e (froze _ _ _ _ _ _ _)
 
   -- those that wait after it are those that stay
   waits_after : (i : ℕ) → In i (numbers_of s.active)
@@ -155,9 +142,7 @@ module _ (s : Situation) (sound : IsSound s) (t : Schedule) (f : IsFeasible s t)
 
   pub waiting_after : (numbered_situation changed).waiting ≡ staying_of (second_of t) h ns.waiting
   waiting_after =
-      ap (filter (waits_at after)) numbers_after ∙ filter_agree (waits_at after) (λ i. waits_at s.active i
-      && not (nat_lt (second_of t i) h)) (numbers_of s.active) waits_after
-      ∙ sym (filter_twice (λ i. not (nat_lt (second_of t i) h)) (waits_at s.active) (numbers_of s.active))
+      ap (filter _) numbers_after ∙ filter_agree _ _ _ waits_after ∙ sym (filter_twice _ _ (numbers_of s.active))
 
   -- as many pass a flight as overtake it by number
   pub passing_is : (i : ℕ) → In i (numbers_of s.active)
@@ -166,15 +151,11 @@ module _ (s : Situation) (sound : IsSound s) (t : Schedule) (f : IsFeasible s t)
       let fl = (numbered s.active i).flight in
       let L = landing_at s.active t in
       let N = numbers_of s.active in
-      let front = filter (λ j. waits_at s.active j && nat_lt (second_of t j) h) N in
-      let a : filter (freezes h) all ≡ map L front = ap (filter (freezes h)) (landings_are s.active t f.0)
-      ∙ filter_map_is (freezes h) L N in
-      ap (count_by (λ (g : Landing). is_lt (arrival_cmp fl g.flight))) a
-      ∙ count_by_map (λ (g : Landing). is_lt (arrival_cmp fl g.flight)) L front
-      ∙ count_by_agree (λ j. is_lt (arrival_cmp fl (numbered s.active j).flight)) (λ j. comes_before s.active i j) front
+      let a = ap (filter _) (landings_are _ t f.0) ∙ filter_map_is _ L N in
+      ap (count_by (λ (g : Landing). is_lt (arrival_cmp fl g.flight))) a ∙ count_by_map _ L (filter _ N) ∙
+      count_by_agree _ _ _
       (λ j k. sym (comes_is s sound i j m (in_filter (λ x. waits_at s.active x && nat_lt (second_of t x) h) j N k).0))
-      ∙ ap (count_by (λ j. comes_before s.active i j))
-      (sym (filter_twice (λ j. nat_lt (second_of t j) h) (waits_at s.active) N))
+      ∙ ap (count_by (λ j. comes_before s.active i j)) (sym (filter_twice _ _ N))
 
   -- ---- the situation stays sound
 
@@ -185,24 +166,23 @@ module _ (s : Situation) (sound : IsSound s) (t : Schedule) (f : IsFeasible s t)
   same_flight i m = (at_after i m).flight
 
   in_after : (i : ℕ) → i < length after → In i (numbers_of s.active)
-  in_after i lt = let e = length_after in numbers_in 0 (length s.active) i zero-le (omega arith)
+  in_after i lt = let e = length_after in numbers_in 0 _ i zero-le (omega arith)
 
   -- what is frozen after it is frozen at its second of the plan, before the horizon
   frozen_after : (i : ℕ) → In i (numbers_of s.active) → (u : ℕ) → (numbered after i).frozen ≡ Some u
       → (u ≡ second_of t i) × (second_of t i < h)
-  frozen_after i m u e = elim (cases_Bool (is_none (numbered s.active i).frozen)) [
+  frozen_after i m u e = elim (cases_Bool _) [
     | inl w ↦
-        (let gone : is_none (numbered after i).frozen ≡ false = ap is_none e in
-        let lt : nat_lt (second_of t i) h ≡ true = early (is_none (numbered s.active i).frozen)
-        (nat_lt (second_of t i) h) w (sym gone ∙ (at_after i m).waits) in
-        (some_same u (second_of t i) (sym e ∙ (at_after i m).second gone w), ltb-true (second_of t i) h lt))
+        (let gone = ap is_none e in (
+          some_same u _ (sym e ∙ (at_after i m).second gone w),
+          ltb-true _ h (early _ _ w (sym gone ∙ (at_after i m).waits)),
+        ))
     | inr w ↦
-        (let o : (numbered s.active i).frozen ≡ Some u = sym ((at_after i m).was w) ∙ e in
-        let j : In i ns.frozen = filter_in (λ x. not (waits_at s.active x)) i (numbers_of s.active) m (ap not w) in
-        let k : second_of t i ≡ unwrap_or (numbered s.active i).frozen 0 = fn.kept i j in
-        let k' : second_of t i ≡ u = k ∙ ap (λ x. unwrap_or x 0) o in
+        (let j = filter_in _ i _ m (ap not w) in
+        let k = fn.kept i j in
+        let k' = k ∙ ap (λ x. unwrap_or x 0) (sym ((at_after i m).was w) ∙ e) in
         let b = (sound_numbered s sound).frozen_before i j in
-        (sym k', omega arith))
+        (omega arith))
   ]
     where
       some_same : (a b : ℕ) → Some a ≡ Some b → a ≡ b
@@ -216,40 +196,36 @@ module _ (s : Situation) (sound : IsSound s) (t : Schedule) (f : IsFeasible s t)
   pub late_after : (i : ℕ) → In i (numbered_situation changed).waiting → In i (numbers_of s.active)
       × (waits_at s.active i ≡ true) × (h ≤ second_of t i)
   late_after i m =
-      let w = in_filter (λ x. not (nat_lt (second_of t x) h)) i ns.waiting (subst (In i) waiting_after m) in
-      let v = in_filter (waits_at s.active) i (numbers_of s.active) w.0 in (
+      let w = in_filter _ i _ (rw waiting_after at m) in
+      let v = in_filter _ i _ w.0 in (
         v.0,
         v.1,
         elim (cases_lt (second_of t i) h) [
-          | inl lt ↦ absurd
-              (false≢true (sym (ap not (lt-ltb (second_of t i) h lt)) ∙ w.1))
+          | inl lt ↦ absurd (false≢true (sym (ap not (lt-ltb _ h lt)) ∙ w.1))
           | inr le ↦ le
         ],
       )
 
   pub waiting_changed : waiting changed ≡ map (numbered after) (numbered_situation changed).waiting
-  waiting_changed = ap (filter is_waiting) (active_are after)
-      ∙ filter_map_is is_waiting (numbered after) (numbers_of after)
+  waiting_changed = ap (filter _) (active_are after) ∙ filter_map_is _ _ (numbers_of after)
 
   pub waiting_before : waiting s ≡ map (numbered s.active) ns.waiting
-  waiting_before = ap (filter is_waiting) (active_are s.active)
-      ∙ filter_map_is is_waiting (numbered s.active) (numbers_of s.active)
+  waiting_before = ap (filter _) (active_are s.active) ∙ filter_map_is _ _ (numbers_of s.active)
 
   pub few_after : length (waiting changed) ≤ length (waiting s)
   few_after =
-      let a = ap length waiting_changed ∙ length-map (numbered_situation changed).waiting (numbered after)
-      ∙ ap length waiting_after in
-      let b = ap length waiting_before ∙ length-map ns.waiting (numbered s.active) in
+      let a = ap length waiting_changed ∙ length-map _ _ ∙ ap length waiting_after in
+      let b = ap length waiting_before ∙ length-map _ _ in
       let c = fewer_kept (λ x. not (nat_lt (second_of t x) h)) ns.waiting in
       omega arith
 
   each_after : (P : Active → Type 0) → ((i : ℕ) → In i (numbers_of s.active) → P (numbered after i)) → All P after
-  each_after P q i d lt = subst P (get_or_default after i nobody d lt) (q i (in_after i lt))
+  each_after P q i d lt = rw (get_or_default after i nobody d lt) at (q i (in_after i lt))
 
   each_frozen_after : (P : Landing → Type 0) → ((i : ℕ) → In i (numbers_of s.active) → second_of t i < h
       → P (landing (numbered after i) (second_of t i))) → All P (frozen_landings changed)
-  each_frozen_after P q = list_frozen P after (λ i lt u e. let m = in_after i lt in let x =
-      frozen_after i m u e in subst (λ v. P (landing (numbered after i) v)) (sym x.0) (q i m x.1))
+  each_frozen_after P q = list_frozen P _ (λ i lt u e. let m = in_after i lt in let x =
+      frozen_after i m u e in rw x.0 (q i m x.1))
 
   pub sound_after : IsSound changed
   sound_after = record {
@@ -257,32 +233,29 @@ module _ (s : Situation) (sound : IsSound s) (t : Schedule) (f : IsFeasible s t)
     callsigns = λ i j d lt ltj e.
         let mi = in_after i (omega arith) in
         let mj = in_after j ltj in
-        let ei = get_or_default after i d nobody (omega arith) in
         let ej = get_or_default after j d nobody ltj in
         callsigns_differ s sound i j mi mj (λ x. omega arith)
-        (ap (λ (x : Flight). x.callsign) (sym (same_flight i mi)) ∙ ap (λ (a : Active). a.flight.callsign) (sym ei)
+        (ap (λ (x : Flight). x.callsign) (sym (same_flight i mi)) ∙ ap (λ (a : Active). a.flight.callsign)
+        (sym (get_or_default after i d nobody (omega arith)))
         ∙ e ∙ ap (λ (a : Active). a.flight.callsign) ej ∙ ap (λ (x : Flight). x.callsign) (same_flight j mj));
     few_active = let a = sound.few_active in let b = length_after in omega arith;
     few_waiting = let a = sound.few_waiting in let b = few_after in omega arith;
     few_closures = sound.few_closures;
     flights = each_after (λ a. IsGoodFlight a.flight) (λ i m. let b = in_numbers 0 (length s.active) i m in
-        subst IsGoodFlight (sym (same_flight i m)) (sound.flights i nobody (omega (arith, b.1))));
+        subst IsGoodFlight (sym (same_flight i m)) (omega arith));
     passed = each_after (λ a. a.passed ≤ s.aerodrome.k) (λ i m. let o = passed_low s sound t f.0 i m in
         elim (at_after i m).passed [
           | inl e ↦ omega arith
           | inr x ↦ elim x [
             | inl e ↦ omega arith
-            | inr y ↦
-                (let e = y.1 in omega arith)
+            | inr y ↦ (omega (arith, y.1))
           ]
         ]);
     no_carry = λ c. each_after (λ a. a.passed ≡ 0) (λ i m.
-        let b = in_numbers 0 (length s.active) i m in
-        let o : (numbered s.active i).passed ≡ 0 = sound.no_carry c i nobody (omega (arith, b.1)) in
+        let o = sound.no_carry c i nobody (omega (arith, (in_numbers 0 (length s.active) i m).1)) in
         elim (at_after i m).passed [
-          | inl e ↦ e
-              ∙ o
-          | inr x ↦ elim x [ inl e ↦ e | inr y ↦ absurd (false≢true (sym c ∙ y.0)) ]
+          | inl e ↦ e ∙ o
+          | inr x ↦ elim x [ inl e ↦ e | inr y ↦ absurd (cc) ]
         ]);
     frozen_open = each_frozen_after (λ g. IsTrue (is_open g.flight.windows s.closures g.second)) (λ i m lt.
         subst (λ (x : Flight). is_open x.windows s.closures (second_of t i) ≡ true) (sym (same_flight i m))
@@ -291,13 +264,11 @@ module _ (s : Situation) (sound : IsSound s) (t : Schedule) (f : IsFeasible s t)
         (fn.opened i (all_among s sound i m))).1);
     frozen_separated = each_frozen_after (λ g. All (ArePairSeparated s.aerodrome.table g) (frozen_landings changed))
         (λ i m lt. each_frozen_after (ArePairSeparated s.aerodrome.table (landing (numbered after i) (second_of t i)))
-        (λ j k lt'. λ ne le.
-        subst (λ (y : Flight). second_of t i + separation s.aerodrome.table
+        (λ j k lt'. λ ne le. subst (λ (y : Flight). second_of t i + separation s.aerodrome.table
         (numbered after i).flight.category y.category ≤ second_of t j) (sym (same_flight j k))
         (subst (λ (x : Flight). second_of t i + separation s.aerodrome.table x.category
         (numbered s.active j).flight.category ≤ second_of t j) (sym (same_flight i m))
-        (fn.separated i j (all_among s sound i m) (all_among s sound j k)
-        (λ e. ne (ap (λ x. (numbered after x).flight.callsign) e)) le))));
+        (fn.separated i j (all_among s sound i m) (all_among s sound j k) (λ e. ne (cc)) le))));
     frozen_in_precedence = each_frozen_after (λ g. All (IsPairInPrecedence g) (frozen_landings changed))
         (λ i m lt. each_frozen_after (IsPairInPrecedence (landing (numbered after i) (second_of t i))) (λ j k lt'. λ l.
         fn.in_order i j (all_among s sound i m) (all_among s sound j k)
@@ -309,30 +280,29 @@ module _ (s : Situation) (sound : IsSound s) (t : Schedule) (f : IsFeasible s t)
         (numbered_situation changed).waiting (λ j k.
         let w = late_after j k in
         false_from_ne_true (lists (numbered after i).flight (numbered after j).flight.callsign) (λ l.
-        let o = fn.in_order j i (all_among s sound j w.0) (all_among s sound i m)
-        (ap₂ (λ (y : Flight) (x : Flight). lists y x.callsign) (sym (same_flight i m)) (sym (same_flight j w.0))
-        ∙ l) in
-        let le = w.2 in
-        omega arith))));
+        omega (
+          arith,
+          fn.in_order j i (all_among s sound j w.0) (all_among s sound i m)
+              (ap₂ (λ (y : Flight) (x : Flight). lists y x.callsign) (sym (same_flight i m)) (sym (same_flight j w.0)) ∙
+              l),
+        )))));
   }
 
   -- ---- the plan stays feasible
 
   after_among : (i : ℕ) → In i (numbers.active (numbered_situation changed)) → In i (numbers_of s.active)
-  after_among i m = subst (In i) numbers_after (among changed sound_after i m)
+  after_among i m = rw numbers_after at (among _ sound_after i m)
 
   less_back : (i : ℕ) → In i (numbers_of s.active)
       → ns.back i - overtook (comes_before s.active) (second_of t) h ns.waiting i ≤ s.aerodrome.k -
       (numbered after i).passed
   less_back i m =
       let p = passing_is i m in
-      let o = passed_low s sound t f.0 i m in
       elim (at_after i m).passed [
         | inl e ↦ omega arith
         | inr x ↦ elim x [
           | inl e ↦ omega arith
-          | inr y ↦
-              (let e = y.1 in omega arith)
+          | inr y ↦ (omega arith)
         ]
       ]
 
@@ -344,8 +314,7 @@ module _ (s : Situation) (sound : IsSound s) (t : Schedule) (f : IsFeasible s t)
   rank_after : (i : ℕ) → In i (numbers_of s.active)
       → rank_in (comes_before after) (numbered_situation changed).waiting i ≡ rank_in (comes_before s.active)
       (staying_of (second_of t) h ns.waiting) i
-  rank_after i m = ap suc (count_by_agree (λ g. comes_before after g i) (λ g. comes_before s.active g i)
-      (numbered_situation changed).waiting (λ g k. comes_after g i (late_after g k).0 m)
+  rank_after i m = ap suc (count_by_agree _ _ _ (λ g k. comes_after g i (late_after g k).0 m)
       ∙ ap (count_by (λ g. comes_before s.active g i)) waiting_after)
 
   place_after : (i : ℕ) → place_in (second_of t) (numbered_situation changed).waiting i ≡ place_in
@@ -377,9 +346,9 @@ module _ (s : Situation) (sound : IsSound s) (t : Schedule) (f : IsFeasible s t)
         (ap₂ (λ (y : Flight) (x : Flight). lists y x.callsign) (sym (same_flight j b)) (sym (same_flight i a)) ∙ l);
     shifted = λ i m.
         let w = late_after i m in
-        let v : In i ns.waiting = filter_in (waits_at s.active) i (numbers_of s.active) w.0 w.1 in
         let k = stays_shifted (comes_before s.active) (first_come s.active)
-        (second_of t) ns.waiting s.aerodrome.k h ns.back (sound_numbered s sound).differ fn.shifted i v w.2 in
+        (second_of t) ns.waiting s.aerodrome.k h ns.back (sound_numbered s sound).differ fn.shifted i
+        (filter_in (waits_at s.active) i (numbers_of s.active) w.0 w.1) w.2 in
         let r = rank_after i w.0 in
         let p = place_after i in
         let b = less_back i w.0 in
@@ -387,21 +356,18 @@ module _ (s : Situation) (sound : IsSound s) (t : Schedule) (f : IsFeasible s t)
   }
 
   pub feasible_after : IsFeasible changed t
-  feasible_after = numbered_feasible changed sound_after t (f.0 ∙ sym length_after) after_numbered
+  feasible_after = numbered_feasible _ sound_after t (f.0 ∙ sym length_after) after_numbered
 
   pub objective_after : objective changed t ≡ objective s t
-  objective_after = ap (cost s.aerodrome.objective) (landings_are after t (f.0 ∙ sym length_after)
-      ∙ ap (map (landing_at after t)) numbers_after) ∙ go s.aerodrome.objective
-      ∙ ap (cost s.aerodrome.objective) (sym (landings_are s.active t f.0))
+  objective_after = ap (cost s.aerodrome.objective) (landings_are _ t (f.0 ∙ sym length_after)
+      ∙ ap (map _) numbers_after) ∙ go _ ∙ ap (cost s.aerodrome.objective) (sym (landings_are _ t f.0))
     where
       go : (o : Objective) → cost o (map (landing_at after t) (numbers_of s.active)) ≡ cost o
           (map (landing_at s.active t) (numbers_of s.active))
-      go Makespan = ap greatest (map_map (λ (g : Landing). g.second) (landing_at after t) (numbers_of s.active)
-          ∙ sym (map_map (λ (g : Landing). g.second) (landing_at s.active t) (numbers_of s.active)))
-      go Delay = sum_map delay (landing_at after t) (numbers_of s.active)
-          ∙ sum_agree (λ i. delay (landing_at after t i)) (λ i. delay (landing_at s.active t i))
-          (numbers_of s.active) (λ i m. ap (λ (x : Flight). x.weight * (second_of t i - x.eta)) (same_flight i m))
-          ∙ sym (sum_map delay (landing_at s.active t) (numbers_of s.active))
+      go Makespan = ap greatest (map_map _ _ _ ∙ sym (map_map _ _ _))
+      go Delay = sum_map _ _ (numbers_of s.active)
+          ∙ sum_agree _ _ _ (λ i m. ap (λ (x : Flight). x.weight * (second_of t i - x.eta)) (same_flight i m))
+          ∙ sym (sum_map _ _ (numbers_of s.active))
 
 -- ---- the laws
 
@@ -409,32 +375,28 @@ pub forth_of : (clock : Option ℕ) (now freeze : ℕ) → clock_back clock now 
     → horizon_after clock freeze ≤ now + freeze
 forth_of None now freeze e = zero-le
 forth_of (Some last) now freeze e = elim (cases_lt now last) [
-  | inl lt ↦ (let w : Some (ClockBack last) ≡ None =
-      rw (lt-ltb now last lt) at e in absurd (cc))
+  | inl lt ↦ (let w : Some (ClockBack last) ≡ None = rw (lt-ltb now _ lt) at e in absurd (cc))
   | inr le ↦ omega arith
 ]
 
 pub clock_keeps_plan : ClockKeepsPlanLaw
 clock_keeps_plan s t now sound f e =
-    let forth = forth_of s.clock now s.aerodrome.freeze e in
+    let forth = forth_of _ now _ e in
     record { feasible = feasible_after s sound t f now forth; objective = objective_after s sound t f now forth }
 
 pub clock_shows_plan : ClockShowsPlanLaw
 clock_shows_plan old new now t sound shown e step =
     let s = old.situation in
-    let before : IsPlanShown s (Some t) = subst (IsPlanShown s) shown sound.shown in
-    let kept = clock_keeps_plan s t now sound.situation before.0.feasible e in
-    let is : new.situation ≡ situation_after s (Some t) (Clock now) =
-    step.changed ∙ ap (λ p. situation_after s p (Clock now)) shown in
-    let there : IsFeasible new.situation t = subst (λ x. IsFeasible x t) (sym is) kept.feasible in
-    let same : objective new.situation t ≡ objective s t = ap (λ x. objective x t) is ∙ kept.objective in
-    go new.plan refl step.shown there same
+    let kept = clock_keeps_plan s t now sound.situation (rw shown at sound.shown).0.feasible e in
+    let is = step.changed ∙ ap (λ p. situation_after s p (Clock now)) shown in
+    let same = ap (λ x. objective x t) is ∙ kept.objective in
+    go _ refl step.shown (subst (λ x. IsFeasible x t) (sym is) kept.feasible) same
   where
     go : (p : Option Schedule) → new.plan ≡ p → IsPlanShown new.situation p → IsFeasible new.situation t
         → objective new.situation t ≡ objective old.situation t → (u : Schedule) × (new.plan ≡ Some u)
         × (objective new.situation u ≤ objective old.situation t)
     go None q x there same = absurd (x t there)
-    go (Some u) q x there same = (u, q, let a = x.0.least t there in omega arith)
+    go (Some u) q x there same = (u, q, omega (arith, x.0.least t there))
 
 -- with no plan shown the situation stays as it is, but for its horizon
 sound_alone : (s : Situation) (now : ℕ) → IsSound s → horizon s ≤ now + s.aerodrome.freeze
@@ -451,11 +413,10 @@ sound_alone s now sound forth = record {
   frozen_open = sound.frozen_open;
   frozen_separated = sound.frozen_separated;
   frozen_in_precedence = sound.frozen_in_precedence;
-  frozen_before = λ k d lt. let a = sound.frozen_before k d lt in omega arith;
+  frozen_before = λ k d lt. omega (arith, sound.frozen_before k d lt);
   frozen_alone = sound.frozen_alone;
 }
 
 pub clock_keeps_sound : ClockKeepsSoundLaw
-clock_keeps_sound s None now sound f e = sound_alone s now sound (forth_of s.clock now s.aerodrome.freeze e)
-clock_keeps_sound s (Some t) now sound f e =
-    sound_after s sound t (f t refl) now (forth_of s.clock now s.aerodrome.freeze e)
+clock_keeps_sound s None now sound f e = sound_alone s now sound (forth_of _ now _ e)
+clock_keeps_sound s (Some t) now sound f e = sound_after s sound t (f t refl) now (forth_of _ now _ e)

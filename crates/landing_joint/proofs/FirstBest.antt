@@ -1,12 +1,12 @@
 -- The first best list of a problem gives the first best schedule of its situation, and there is at most one.
 use Rattle.std.proofs.Common.{◌≡◌, ◌≢◌, ℕ, zero, suc, ◌<◌, ◌≤◌, inl, inr, List, [], ◌∷◌, length, get_or, map, filter}
-use Rattle.std.proofs.Common.{Bool, true, false, not, nat_lt, zero-le, le_antisymm, arith, refl, sym, ap, subst, ◌∙◌}
+use Rattle.std.proofs.Common.{true, false, not, nat_lt, zero-le, arith, refl, sym, ap, subst, ◌∙◌}
 use Rattle.std.specs.Prelude.{Option, Some, None, option_map}
 use Rattle.std.proofs.lemmas.Bool.{cases_eq, cases_Bool}
 use Rattle.std.proofs.lemmas.List.{get_or_default}
 use Rattle.std.proofs.lemmas.List.Elements.{AllZip-get_or}
 use Rattle.wake_table.specs.Table.{IsWakeTable}
-use Rattle.landing_rules.specs.Flights.{Active, Situation, Schedule, Landing, landings, waiting}
+use Rattle.landing_rules.specs.Flights.{Active, Situation, Schedule, waiting}
 use Rattle.landing_rules.specs.Rules.{IsFeasible, IsBest, IsTight, HaveSameOrder, objective, rank, waits}
 use Rattle.landing_rules.specs.Events.{insert_landing, in_landing_order, IsPlanShown}
 use Rattle.landing_rules.specs.Problem as lists'
@@ -44,8 +44,7 @@ order_insert : (all : List Active) (t : Schedule) (i : ℕ) (js : List ℕ)
     (insert_by (second_of t) i js)
 order_insert all t i [] = refl
 order_insert all t i (j ∷ js) = elim (cases_Bool (nat_lt (second_of t j) (second_of t i))) [
-  | inl e ↦
-      rw e (ap (λ l. landing_at all t j ∷ l) (order_insert all t i js))
+  | inl e ↦ rw e (ap (λ l. landing_at all t j ∷ l) (order_insert all t i js))
   | inr e ↦ rw e
 ]
 
@@ -53,7 +52,7 @@ order_numbers : (all : List Active) (t : Schedule) (js : List ℕ)
     → in_landing_order (map (landing_at all t) js) ≡ map (landing_at all t) (sorted_by (second_of t) js)
 order_numbers all t [] = refl
 order_numbers all t (j ∷ js) = ap (insert_landing (landing_at all t j)) (order_numbers all t js)
-    ∙ order_insert all t j (sorted_by (second_of t) js)
+    ∙ order_insert all t j _
 
 module _ (s : Situation) (sound : IsSound s) where
   abbrev ns : numbers.NumberedSituation
@@ -68,40 +67,35 @@ module _ (s : Situation) (sound : IsSound s) where
 
   in_waiting_by : (t : Schedule) (i : ℕ) → In i (waiting_by t) → In i ns.waiting
   in_waiting_by t i m =
-      let w = in_filter (waits_at s.active) i (sorted_by (second_of t) (numbers_of s.active)) m in
-      filter_in (waits_at s.active) i (numbers_of s.active) (in_sorted_by (second_of t) i (numbers_of s.active) w.0) w.1
+      let w = in_filter _ i _ m in
+      filter_in _ i _ (in_sorted_by _ i (numbers_of s.active) w.0) w.1
 
   waiting_in_by : (t : Schedule) (i : ℕ) → In i ns.waiting → In i (waiting_by t)
   waiting_in_by t i m =
-      let w = in_filter (waits_at s.active) i (numbers_of s.active) m in
-      filter_in (waits_at s.active) i (sorted_by (second_of t) (numbers_of s.active))
-      (sorted_by_in (second_of t) i (numbers_of s.active) w.0) w.1
+      let w = in_filter _ i _ m in
+      filter_in _ i _ (sorted_by_in _ i (numbers_of s.active) w.0) w.1
 
   -- the order of ranks is that of these numbers
   order_is : (t : Schedule) → length t ≡ length s.active → order_of s t ≡ map rank_of (waiting_by t)
   unfolding rank_of
   order_is t long =
-      let W = map (λ (a : Active). a.flight) (waiting s) in
+      let W = map _ (waiting s) in
       let L = landing_at s.active t in
       let xs = sorted_by (second_of t) (numbers_of s.active) in
-      let a : filter waits (in_landing_order (landings s.active t)) ≡ map L (waiting_by t) =
-      ap (λ l. filter waits (in_landing_order l)) (landings_are s.active t long)
-      ∙ ap (filter waits) (order_numbers s.active t (numbers_of s.active)) ∙ filter_map_is waits L xs in
-      ap (map (λ (f : Landing). rank W f.flight)) a
-      ∙ map_map (λ (f : Landing). rank W f.flight) L (waiting_by t)
-      ∙ map_agree (λ i. rank W (numbered s.active i).flight) (λ i. rank_in (comes_before s.active) ns.waiting i)
-      (waiting_by t) (λ i m. rank_is s sound i (in_filter (waits_at s.active) i (numbers_of s.active)
-      (in_waiting_by t i m)).0)
+      let a =
+      ap (λ l. filter waits (in_landing_order l)) (landings_are _ t long)
+      ∙ ap (filter _) (order_numbers _ t (numbers_of s.active)) ∙ filter_map_is _ L xs in
+      ap (map _) a ∙ map_map _ L _ ∙ map_agree (λ i. rank W (numbered s.active i).flight) _
+      _ (λ i m. rank_is s sound i (in_filter _ i _ (in_waiting_by t i m)).0)
 
   -- different waiting flights have different ranks
   rank_below : (i j : ℕ) → In i ns.waiting → comes_before s.active i j ≡ true → rank_of i < rank_of j
   unfolding rank_of
   rank_below i j m e =
       let c = first_come s.active in
-      let before : ℕ → ℕ → Bool = comes_before s.active in
-      let itself : before i i ≡ false = elim (cases_Bool (before i i)) [ inl t ↦ c.one_way i i t | inr f ↦ f ] in
-      let lt = count_stricter (λ g. before g i) (λ g. before g j) i ns.waiting m itself e
-      (λ g k h. c.chain g i j h e) in
+      let before = comes_before s.active in
+      let itself : before i i ≡ false = elim (cases_Bool _) [ inl t ↦ c.one_way i i t | inr f ↦ f ] in
+      let lt = count_stricter _ _ i _ m itself e (λ g k h. c.chain g i j h e) in
       let a = count_is (λ g. before g i) ns.waiting in
       let b = count_is (λ g. before g j) ns.waiting in
       omega arith
@@ -109,9 +103,9 @@ module _ (s : Situation) (sound : IsSound s) where
   ranks_one : (i j : ℕ) → In i ns.waiting → In j ns.waiting → rank_of i ≡ rank_of j → i ≡ j
   ranks_one i j mi mj e = elim (cases_eq i j) [
     | inl q ↦ q
-    | inr ne ↦ elim (cases_Bool (comes_before s.active i j)) [
-      | inl b ↦ absurd (let lt = rank_below i j mi b in omega arith)
-      | inr b ↦ absurd (let lt = rank_below j i mj ((first_come s.active).total i j ne b) in omega arith)
+    | inr ne ↦ elim (cases_Bool _) [
+      | inl b ↦ absurd (omega (arith, rank_below i j mi b))
+      | inr b ↦ absurd (omega (arith, rank_below j i mj ((first_come s.active).total i j ne b)))
     ]
   ]
 
@@ -119,30 +113,25 @@ module _ (s : Situation) (sound : IsSound s) where
   seconds_differ : (t : Schedule) → numbers.FeasibleIn ns (second_of t) → (i j : ℕ) → In i (numbers_of s.active)
       → In j (numbers_of s.active) → i ≢ j → second_of t i ≢ second_of t j
   seconds_differ t f i j mi mj ne e =
-      let a = f.separated i j (all_among s sound i mi) (all_among s sound j mj) ne (omega arith) in
-      let b = (sound.table.entries (numbered s.active i).flight.category (numbered s.active j).flight.category).0 in
-      omega arith
+      omega (arith, f.separated i j (all_among s sound i mi) (all_among s sound j mj) ne (omega arith))
 
   waiting_ascend : (t : Schedule) → numbers.FeasibleIn ns (second_of t) → Ascends (second_of t) (waiting_by t)
-  waiting_ascend t f = filter_ascends (second_of t) (waits_at s.active) (sorted_by (second_of t) (numbers_of s.active))
-      (sorted_by_ascends (second_of t) (numbers_of s.active) (distinct_numbers 0 (length s.active))
-      (seconds_differ t f))
+  waiting_ascend t f = filter_ascends _ _ _ (sorted_by_ascends _ _ (distinct_numbers 0 _) (seconds_differ t f))
 
   -- where the waiting flights land in the same order, all do
   all_same : (t u : Schedule) → numbers.FeasibleIn ns (second_of t) → numbers.FeasibleIn ns (second_of u)
       → ((i j : ℕ) → In i ns.waiting → In j ns.waiting → second_of t i < second_of t j → second_of u i < second_of u j)
       → (i j : ℕ) → In i (numbers_of s.active) → In j (numbers_of s.active) → second_of t i < second_of t j
       → second_of u i < second_of u j
-  all_same t u f g same i j mi mj lt = elim (cases_Bool (waits_at s.active i)) [
-    | inl wi ↦ elim (cases_Bool (waits_at s.active j)) [
+  all_same t u f g same i j mi mj lt = elim (cases_Bool _) [
+    | inl wi ↦ elim (cases_Bool _) [
       | inl wj ↦ same i j (waits i mi wi) (waits j mj wj) lt
-      | inr wj ↦ absurd
-          (let a = f.behind i (waits i mi wi) in
+      | inr wj ↦ absurd (let a = f.behind i (waits i mi wi) in
           let b = f.kept j (rests j mj wj) in
           let c = (sound_numbered s sound).frozen_before j (rests j mj wj) in
           omega arith)
     ]
-    | inr wi ↦ elim (cases_Bool (waits_at s.active j)) [
+    | inr wi ↦ elim (cases_Bool _) [
       | inl wj ↦
           (let a = g.behind j (waits j mj wj) in
           let b = g.kept i (rests i mi wi) in
@@ -158,10 +147,10 @@ module _ (s : Situation) (sound : IsSound s) where
   ]
     where
       waits : (x : ℕ) → In x (numbers_of s.active) → waits_at s.active x ≡ true → In x (numbered_situation s).waiting
-      waits x m e = filter_in (waits_at s.active) x (numbers_of s.active) m e
+      waits x m e = filter_in _ x _ m e
 
       rests : (x : ℕ) → In x (numbers_of s.active) → waits_at s.active x ≡ false → In x (numbered_situation s).frozen
-      rests x m e = filter_in (λ y. not (waits_at s.active y)) x (numbers_of s.active) m (ap not e)
+      rests x m e = filter_in _ x _ m (ap not e)
 
   all_in_order : (t u : Schedule) → length t ≡ length s.active → numbers.FeasibleIn ns (second_of t)
       → numbers.FeasibleIn ns (second_of u)
@@ -169,8 +158,8 @@ module _ (s : Situation) (sound : IsSound s) where
       → ((i j : ℕ) → In i ns.waiting → In j ns.waiting → second_of u i < second_of u j → second_of t i < second_of t j)
       → HaveSameOrder t u
   all_in_order t u long f g forth back i j li lj =
-      let mi = numbers_in 0 (length s.active) i zero-le (omega arith) in
-      let mj = numbers_in 0 (length s.active) j zero-le (omega arith) in
+      let mi = numbers_in 0 _ i zero-le (omega arith) in
+      let mj = numbers_in 0 _ j zero-le (omega arith) in
       (all_same t u f g forth i j mi mj, all_same u t g f back i j mi mj)
 
   -- schedules whose waiting flights land in one order of ranks land all flights in one order
@@ -178,21 +167,18 @@ module _ (s : Situation) (sound : IsSound s) where
   order_tells t u ft fu e =
       let f = feasible_numbered s sound t ft.0 ft in
       let g = feasible_numbered s sound u fu.0 fu in
-      let one : waiting_by t ≡ waiting_by u = map_one rank_of (waiting_by t) (waiting_by u)
+      let one = map_one _ _ _
       (λ i j mi mj. ranks_one i j (in_waiting_by t i mi) (in_waiting_by u j mj)) (sym (order_is t ft.0)
       ∙ e ∙ order_is u fu.0) in
       let at = waiting_ascend t f in
       let au = subst (Ascends (second_of u)) (sym one) (waiting_ascend u g) in
-      all_in_order t u ft.0 f g
-      (λ i j mi mj. ascends_same (second_of t) (second_of u) (waiting_by t) at au i j (waiting_in_by t i mi)
-      (waiting_in_by t j mj))
-      (λ i j mi mj. ascends_same (second_of u) (second_of t) (waiting_by t) au at i j (waiting_in_by t i mi)
-      (waiting_in_by t j mj))
+      all_in_order t u ft.0 f g (λ i j mi mj. ascends_same _ _ _ at au i j (waiting_in_by t i mi)
+      (waiting_in_by t j mj)) (λ i j mi mj. ascends_same _ _ _ au at i j (waiting_in_by t i mi) (waiting_in_by t j mj))
 
   -- there is at most one first best schedule
   pub first_best_is_one : (t u : Schedule) → IsFirstBest s t → IsFirstBest s u → t ≡ u
   first_best_is_one t u a b =
-      let e = no_later_antisym (order_of s t) (order_of s u) (a.first u b.best b.tight) (b.first t a.best a.tight) in
+      let e = no_later_antisym _ _ (a.first u b.best b.tight) (b.first t a.best a.tight) in
       let o = order_tells t u a.tight.feasible b.tight.feasible e in
       let o' = order_tells u t b.tight.feasible a.tight.feasible (sym e) in
       zip_same t u (a.tight.earliest u b.tight.feasible o) (b.tight.earliest t a.tight.feasible o')
@@ -200,13 +186,12 @@ module _ (s : Situation) (sound : IsSound s) where
 -- a first best schedule costs what every best one does
 pub first_best_objective : (s : Situation) (t u : Schedule) → IsFirstBest s t → IsBest s u
     → objective s t ≡ objective s u
-first_best_objective s t u a b = le_antisymm (a.best.least u b.feasible) (b.least t a.best.feasible)
+first_best_objective s t u a b = omega arith
 
 module _ (s : Situation) (sound : IsSound s) (p : lists'.Problem) (of : lists'.IsProblemOf s p) where
   -- what the theory asks of the problem
   pub problem_sound : SoundProblem (ranked p)
-  problem_sound = sound_ranked p (subst (λ t. IsWakeTable t) (sym of.table) sound.table) (λ q r e. let b =
-      of.between_ranks q r e in (b.0, b.1))
+  problem_sound = sound_ranked p (rw of.table sound.table) (λ q r e. let b = of.between_ranks q r e in (b.0, b.1))
 
   -- the order of a list is that of the schedule that it gives
   pub joined_order : (v : Schedule) → lists'.IsFeasibleList p v → order_of s (joined s v) ≡ order_of_list v
@@ -218,7 +203,7 @@ module _ (s : Situation) (sound : IsSound s) (p : lists'.Problem) (of : lists'.I
       let long = joint.joined_long s sound p of v in
       let fn = feasible_numbered s sound J long g in
       let rank_at : (r : ℕ) → IsRank n r → rank_of s sound (number_at s r) ≡ r =
-      λ r q. theory.rank_is (numbered_situation s) (ranked p) (number_at s) (sound_numbered s sound) problem_of r q in
+      λ r q. theory.rank_is _ _ _ (sound_numbered s sound) problem_of r q in
       let by : InLandingOrder n (of_rank 0 v) (map (rank_of s sound) (waiting_by s sound J)) = record {
         ranked = λ x i.
             let w = in_map (rank_of s sound) (waiting_by s sound J) x i in
@@ -230,11 +215,10 @@ module _ (s : Situation) (sound : IsSound s) (p : lists'.Problem) (of : lists'.I
         ascends = map_ascends (second_of J) (of_rank 0 v) (rank_of s sound) (waiting_by s sound J)
             (λ i m. let a = problem_of.at_all i (in_waiting_by s sound J i m) in subst
             (λ z. of_rank 0 v (rank_of s sound z) ≡ second_of J z) a.2 (ap (of_rank 0 v) (rank_at a.0 a.1)
-            ∙ sym (joint.joined_rank s sound p of v a.0 a.1)))
-            (waiting_ascend s sound J fn);
+            ∙ sym (joint.joined_rank s sound p of v a.0 a.1))) (waiting_ascend s sound J fn);
       } in
-      order_is s sound J long ∙ one_landing_order p problem_sound (of_rank 0 v) (list_feasible p v f)
-      (map (rank_of s sound) (waiting_by s sound J)) (order_of_list v) by (list_in_landing_order p problem_sound v f)
+      order_is s sound J long ∙ one_landing_order p problem_sound _ (list_feasible p v f)
+      _ _ by (list_in_landing_order p problem_sound v f)
     where
       problem_of : numbers.ProblemOf (numbered_situation s) (ranked p) (number_at s)
       problem_of = joint.problem_of s sound p of
@@ -255,20 +239,17 @@ module _ (s : Situation) (sound : IsSound s) (p : lists'.Problem) (of : lists'.I
       → HaveSameOrder (joined s v) (joined s w)
   order_given v w f g same =
       let long = joint.joined_long s sound p of v in
-      all_in_order s sound (joined s v) (joined s w) long
-      (feasible_numbered s sound (joined s v) long (joint.list_gives_schedule s sound p of v f))
-      (feasible_numbered s sound (joined s w) (joint.joined_long s sound p of w)
-      (joint.list_gives_schedule s sound p of w g))
+      all_in_order s sound _ _ long (feasible_numbered s sound _ long (joint.list_gives_schedule s sound p of v f))
+      (feasible_numbered s sound _ (joint.joined_long s sound p of w) (joint.list_gives_schedule s sound p of w g))
       (λ i j mi mj. two v w (λ q r iq ir lt. (by_rank f.one_each same q r iq ir).0 lt) i j mi mj)
       (λ i j mi mj. two w v (λ q r iq ir lt. (by_rank f.one_each same q r iq ir).1 lt) i j mi mj)
     where
       by_rank : length v ≡ length p.flights → HaveSameOrder v w → (q r : ℕ) → IsRank (length p.flights) q
           → IsRank (length p.flights) r → (of_rank 0 v q < of_rank 0 v r → of_rank 0 w q < of_rank 0 w r)
           × (of_rank 0 w q < of_rank 0 w r → of_rank 0 v q < of_rank 0 v r)
-      by_rank long o zero r iq ir = absurd (let a = iq.0 in omega arith)
-      by_rank long o (suc i) zero iq ir = absurd (let a = ir.0 in omega arith)
-      by_rank long o (suc i) (suc j) iq ir = let a = iq.1 in let b = ir.1 in let x =
-          o i j (omega arith) (omega arith) in (x.0, x.1)
+      by_rank long o zero r iq ir = omega arith
+      by_rank long o (suc i) zero iq ir = omega arith
+      by_rank long o (suc i) (suc j) iq ir = let x = o i j (omega arith) (omega arith) in (x.0, x.1)
 
       two : (x y : Schedule) → ((q r : ℕ) → IsRank (length p.flights) q → IsRank (length p.flights) r
           → of_rank 0 x q < of_rank 0 x r → of_rank 0 y q < of_rank 0 y r)
@@ -277,11 +258,8 @@ module _ (s : Situation) (sound : IsSound s) (p : lists'.Problem) (of : lists'.I
       two x y h i j mi mj =
           let a = (joint.problem_of s sound p of).at_all i mi in
           let b = (joint.problem_of s sound p of).at_all j mj in
-          subst (λ z. second_of (joined s x) z < second_of (joined s x) j
-          → second_of (joined s y) z < second_of (joined s y) j) a.2
-          (subst (λ z. second_of (joined s x) (number_at s a.0) < second_of (joined s x) z
-          → second_of (joined s y) (number_at s a.0) < second_of (joined s y) z) b.2
-          (λ lt.
+          rw a.2 at (subst (λ z. second_of (joined s x) (number_at s a.0) < second_of (joined s x) z
+          → second_of (joined s y) (number_at s a.0) < second_of (joined s y) z) b.2 (λ lt.
           let xa = joint.joined_rank s sound p of x a.0 a.1 in
           let xb = joint.joined_rank s sound p of x b.0 b.1 in
           let ya = joint.joined_rank s sound p of y a.0 a.1 in
@@ -295,19 +273,14 @@ module _ (s : Situation) (sound : IsSound s) (p : lists'.Problem) (of : lists'.I
     feasible = f;
     earliest = λ u g o.
         let z = t.earliest (joined s u) (joint.list_gives_schedule s sound p of u g) (order_given v u f g o) in
-        let lv = f.one_each in
-        let lu = g.one_each in
         zip_of v u (omega arith) (λ i lt.
-        let q : IsRank (length p.flights) (suc i) = (omega arith, omega arith) in
+        let q : IsRank (length p.flights) (suc i) = omega arith in
         let b = in_numbers 0 (length s.active) (number_at s (suc i)) (joint.among s sound p of (suc i) q) in
-        let n = joint.joined_long s sound p of v in
-        let le : second_of (joined s v) (number_at s (suc i)) ≤ second_of (joined s u) (number_at s (suc i)) =
-        AllZip-get_or (λ a b. a ≤ b) (joined s v) (joined s u) (number_at s (suc i)) 0 0 z (omega (arith, b.1, n)) in
-        let a : second_of (joined s v) (number_at s (suc i)) ≡ get_or v i 0 =
-        joint.joined_rank s sound p of v (suc i) q in
-        let c : second_of (joined s u) (number_at s (suc i)) ≡ get_or u i 0 =
-        joint.joined_rank s sound p of u (suc i) q in
-        omega (arith, a, c, le));
+        let le =
+        AllZip-get_or (λ a b. a ≤ b) (joined s v) (joined s u) (number_at s (suc i)) 0 0 z
+        (omega (arith, b.1, joint.joined_long s sound p of v)) in
+        let c = joint.joined_rank s sound p of u (suc i) q in
+        omega (arith, joint.joined_rank s sound p of v (suc i) q, c, le));
   }
 
   -- the first best list gives the first best schedule
@@ -353,8 +326,8 @@ module _ (p : lists'.Problem) (is : IsSoundProblem p) where
   ranked_sound = sound_ranked p is.table (λ q r e. let b = is.between_ranks q r e in (b.0, b.1))
 
   pub passed_at : (r : ℕ) → IsRank (length p.flights) r → (of_rank no_waiting p.flights r).passed ≤ p.k
-  passed_at zero q = absurd (let a = q.0 in omega arith)
-  passed_at (suc i) q = is.passed i no_waiting (let a = q.1 in omega arith)
+  passed_at zero q = omega arith
+  passed_at (suc i) q = omega arith
 
   pub one_first_best_list : (v w : Schedule) → IsFirstBestList p v → IsFirstBestList p w → v ≡ w
   one_first_best_list = first_best_list_is_one p ranked_sound passed_at
@@ -378,5 +351,4 @@ first_plan_is_shown s (Some t) a = (a.best, a.tight)
 pub first_list_gives_plan : (s : Situation) (p : lists'.Problem) (list : Option Schedule) → IsSound s
     → lists'.IsProblemOf s p → IsFirstList p list → IsFirstPlan s (option_map (lists'.joined s) list)
 first_list_gives_plan s p None sound of a = λ t f. let w = joint.schedule_gives_list s sound p of t f in a w.0 w.1
-first_list_gives_plan s p (Some v) sound of a =
-    subst (IsFirstBest s) (sym (joined_in_words s sound v)) (first_best_schedule s sound p of v a)
+first_list_gives_plan s p (Some v) sound of a = rw (joined_in_words s sound v) (first_best_schedule s sound p of v a)

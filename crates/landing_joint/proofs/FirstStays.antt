@@ -1,7 +1,7 @@
 -- Of the flights that stay when the front of a plan freezes, the first in first-come order: whoever comes before it
 -- freezes, so its own leave to go back bounds how many behind it freeze, and so behind each that stays.
 use Rattle.std.proofs.Common.{◌≡◌, ◌≢◌, ℕ, ◌<◌, ◌≤◌, ◌&&◌, ◌∙◌, inl, inr, List, [], ◌∷◌, Bool, true, false, not}
-use Rattle.std.proofs.Common.{nat_lt, arith, refl, sym, ap, subst}
+use Rattle.std.proofs.Common.{nat_lt, arith, refl, sym, ap}
 use Rattle.std.proofs.lemmas.Bool.{cases_Bool, cases_eq, cases_lt, ltb-true, lt-ltb, le-ltb, and_parts, and_from}
 use Rattle.std.proofs.lemmas.Bool.{false≢true}
 use Rattle.cps_theory.specs.RankLists.{In}
@@ -15,7 +15,7 @@ module _ (comes_before : ℕ → ℕ → Bool) (order : FirstCome comes_before) 
   -- if f does not come before x, whoever comes after f comes after x
   behind_both : (f x y : ℕ) → comes_before f x ≡ false → comes_before f y ≡ true → comes_before x y ≡ true
   behind_both f x y ahead after = elim (cases_eq f x) [
-    | inl e ↦ subst (λ z. comes_before z y ≡ true) e after
+    | inl e ↦ rw e at after
     | inr ne ↦ order.chain x f y (order.total f x ne ahead) after
   ]
 
@@ -24,13 +24,13 @@ module _ (comes_before : ℕ → ℕ → Bool) (order : FirstCome comes_before) 
   First xs = (m : ℕ) × In m xs × ((y : ℕ) → In y xs → comes_before y m ≡ false)
 
   earlier_first : (x : ℕ) (xs : List ℕ) → First xs → First (x ∷ xs)
-  earlier_first x xs r = elim (cases_Bool (comes_before x r.0)) [
+  earlier_first x xs r = elim (cases_Bool _) [
     | inl b ↦ (
       x,
       inl refl,
       λ y i. elim i [
-        | inl e ↦ subst (λ z. comes_before z x ≡ false) (sym e) (not_before_itself comes_before order x)
-        | inr j ↦ elim (cases_Bool (comes_before y x)) [
+        | inl e ↦ rw e (not_before_itself _ order x)
+        | inr j ↦ elim (cases_Bool _) [
           | inl q ↦ absurd (false≢true (sym (r.2 y j) ∙ order.chain y x r.0 q b))
           | inr q ↦ q
         ]
@@ -40,7 +40,7 @@ module _ (comes_before : ℕ → ℕ → Bool) (order : FirstCome comes_before) 
       r.0,
       inr r.1,
       λ y i. elim i [
-        | inl e ↦ subst (λ z. comes_before z r.0 ≡ false) (sym e) b
+        | inl e ↦ rw e b
         | inr j ↦ r.2 y j
       ],
     )
@@ -51,8 +51,7 @@ module _ (comes_before : ℕ → ℕ → Bool) (order : FirstCome comes_before) 
     x,
     inl refl,
     λ y i. elim i [
-      | inl e ↦ subst (λ z. comes_before z x ≡ false) (sym e)
-          (not_before_itself comes_before order x)
+      | inl e ↦ rw e (not_before_itself _ order x)
       | inr j ↦ absurd j
     ],
   )
@@ -66,12 +65,11 @@ module _ (comes_before : ℕ → ℕ → Bool) (order : FirstCome comes_before) 
       → KeepsCountedShift k back comes_before t waiting f) where
     stays : (f : ℕ) → In f (staying_of t h waiting) → In f waiting × (h ≤ t f)
     stays f i =
-        let w = in_filter (λ x. not (nat_lt (t x) h)) f waiting i in (
+        let w = in_filter _ f _ i in (
           w.0,
           elim (cases_lt (t f) h) [
-            | inl lt ↦ absurd (false≢true (sym (ap not (lt-ltb (t f) h lt)) ∙ w.1))
-            | inr le ↦
-                le
+            | inl lt ↦ absurd (false≢true (sym (ap not (lt-ltb _ h lt)) ∙ w.1))
+            | inr le ↦ le
           ],
         )
 
@@ -82,8 +80,7 @@ module _ (comes_before : ℕ → ℕ → Bool) (order : FirstCome comes_before) 
         let froze = frozen_of t h waiting in
         let a = count_is (λ g. comes_before f g) froze in
         let b = count_is (λ g. comes_before x g) froze in
-        let w = count_weaker (λ g. comes_before f g) (λ g. comes_before x g) froze
-        (λ y i e. behind_both f x y ahead e) in
+        let w = count_weaker _ _ froze (λ y i e. behind_both f x y ahead e) in
         omega arith
 
     -- those behind the first that stays are no more than it may go back
@@ -93,7 +90,6 @@ module _ (comes_before : ℕ → ℕ → Bool) (order : FirstCome comes_before) 
     few_overtook_first m i first =
         let early = λ (g : ℕ). nat_lt (t g) h in
         let froze = frozen_of t h waiting in
-        let stay = staying_of t h waiting in
         let at = stays m i in
         let s = shift m at.0 in
         let a = count_is (λ g. comes_before g m) waiting in
@@ -101,14 +97,13 @@ module _ (comes_before : ℕ → ℕ → Bool) (order : FirstCome comes_before) 
         let c = count_is (λ g. comes_before m g) froze in
         let ranks = count_parts (λ g. comes_before g m) early waiting in
         let places = count_parts (λ g. nat_lt (t g) (t m)) early waiting in
-        let none = count_none (λ g. comes_before g m) stay (λ g j e. false≢true (sym (first g j) ∙ e)) in
-        let split = count_split (λ g. comes_before g m) (λ g. comes_before m g) (λ g. nat_lt (t g) (t m)) froze (λ g j.
-        let w = in_filter early g waiting j in
-        let lt = ltb-true (t g) h w.1 in
-        let yes' = lt-ltb (t g) (t m) (let le = at.1 in omega arith) in
-        elim (cases_Bool (comes_before m g)) [
+        let none = count_none _ (staying_of t h waiting) (λ g j e. false≢true (sym (first g j) ∙ e)) in
+        let split = count_split _ _ _ froze (λ g j.
+        let lt = ltb-true (t g) h (in_filter early g _ j).1 in
+        let yes' = lt-ltb (t g) (t m) (omega arith) in
+        elim (cases_Bool _) [
           | inl q ↦ inr (inl (yes', order.one_way m g q, q))
-          | inr q ↦ inl (yes', order.total m g (λ e. let z = ap t e in let le = at.1 in omega arith) q, q)
+          | inr q ↦ inl (yes', order.total m g (λ e. omega (arith, ap t e)) q, q)
         ]) in
         omega (arith, s.1)
 
@@ -116,7 +111,7 @@ module _ (comes_before : ℕ → ℕ → Bool) (order : FirstCome comes_before) 
     pub bound_overtook : (f : ℕ) → In f (staying_of t h waiting) → (m : ℕ) × In m (staying_of t h waiting)
         × (comes_before f m ≡ false) × (overtook comes_before t h waiting f ≤ back m)
     bound_overtook f i =
-        let r = first_in f (staying_of t h waiting) i in
+        let r = first_in f _ i in
         let ahead = r.2 f i in
         let a = fewer_overtook f r.0 ahead in
         let b = few_overtook_first r.0 r.1 r.2 in
@@ -129,12 +124,11 @@ module _ (comes_before : ℕ → ℕ → Bool) (order : FirstCome comes_before) 
       → back f ≤ 1) (apart : (f g : ℕ)
       → In f waiting → In g waiting → f ≢ g → t f ≢ t g) where
     staying : (h f : ℕ) → In f waiting → h ≤ t f → In f (staying_of t h waiting)
-    staying h f i le = filter_in (λ x. not (nat_lt (t x) h)) f waiting i (ap not (le-ltb (t f) h le))
+    staying h f i le = filter_in _ f _ i (ap not (le-ltb _ h le))
 
     overtook_is : (h f : ℕ) → overtook comes_before t h waiting f ≡ count (λ g. nat_lt (t g) h
         && comes_before f g) waiting
-    overtook_is h f = count_is (λ g. comes_before f g) (frozen_of t h waiting)
-        ∙ count_filter (λ g. comes_before f g) (λ g. nat_lt (t g) h) waiting
+    overtook_is h f = count_is _ _ ∙ count_filter _ _ _
 
     -- those behind f that land before h land before m too, behind m; and so does f, if it is another
     module _ (h f m : ℕ) (i : In f waiting) (j : In m waiting) (stays_f : h ≤ t f) (later : t f ≤ t m)
@@ -142,14 +136,12 @@ module _ (comes_before : ℕ → ℕ → Bool) (order : FirstCome comes_before) 
       among : (g : ℕ) → (nat_lt (t g) h && comes_before f g) ≡ true → (nat_lt (t g) (t m) && comes_before m g) ≡ true
       among g e =
           let p = and_parts (nat_lt (t g) h) (comes_before f g) e in
-          let lt = ltb-true (t g) h p.0 in
-          and_from (nat_lt (t g) (t m)) (comes_before m g) (lt-ltb (t g) (t m) (omega arith))
-          (behind_both f m g ahead p.1)
+          let lt = ltb-true _ h p.0 in
+          and_from _ _ (lt-ltb _ _ (omega arith)) (behind_both f m g ahead p.1)
 
       as_many : overtook comes_before t h waiting f ≤ overtook comes_before t (t m) waiting m
       as_many =
-          let w = count_weaker (λ g. nat_lt (t g) h && comes_before f g) (λ g. nat_lt (t g) (t m)
-          && comes_before m g) waiting (λ g n e. among g e) in
+          let w = count_weaker _ _ waiting (λ g n e. among g e) in
           let a = overtook_is h f in
           let b = overtook_is (t m) m in
           omega arith
@@ -157,12 +149,9 @@ module _ (comes_before : ℕ → ℕ → Bool) (order : FirstCome comes_before) 
       more : f ≢ m → overtook comes_before t h waiting f < overtook comes_before t (t m) waiting m
       more ne =
           let apart' = apart f m i j ne in
-          let out : (nat_lt (t f) h && comes_before f f) ≡ false =
-          ap (λ b. b && comes_before f f) (le-ltb (t f) h stays_f) in
-          let within = and_from (nat_lt (t f) (t m)) (comes_before m f) (lt-ltb (t f) (t m) (omega arith))
-          (order.total f m ne ahead) in
-          let w = count_stricter (λ g. nat_lt (t g) h && comes_before f g) (λ g. nat_lt (t g) (t m)
-          && comes_before m g) f waiting i out within (λ g n e. among g e) in
+          let within = and_from _ _ (lt-ltb _ _ (omega arith)) (order.total f m ne ahead) in
+          let w = count_stricter _ _ f _ i (ap (λ b. b && comes_before f f) (le-ltb _ h stays_f)) within
+          (λ g n e. among g e) in
           let a = overtook_is h f in
           let b = overtook_is (t m) m in
           omega arith
@@ -171,15 +160,13 @@ module _ (comes_before : ℕ → ℕ → Bool) (order : FirstCome comes_before) 
     pub few_overtook_itself : (h f : ℕ) → In f waiting → h ≤ t f → overtook comes_before t h waiting f ≤ back f
     few_overtook_itself h f i le =
         let f_in = staying (t f) f i (omega arith) in
-        let r = first_in f (staying_of t (t f) waiting) f_in in
+        let r = first_in f _ f_in in
         let m = r.0 in
-        let at = stays t waiting k (t f) back shift m r.1 in
+        let at = stays t waiting k _ _ shift m r.1 in
         let later = at.1 in
-        let few = few_overtook_first t waiting k (t m) back shift m (staying (t m) m at.0 (omega arith))
-        (λ y n. r.2 y (let w = stays t waiting k (t m) back shift y n in let x =
-        w.1 in staying (t f) y w.0 (omega arith))) in
-        let low = one m at.0 in
+        let few = few_overtook_first t waiting k _ _ shift m (staying _ m at.0 (omega arith))
+        (λ y n. r.2 y (let w = stays t waiting k (t m) _ shift y n in staying _ y w.0 (omega arith))) in
         elim (cases_eq f m) [
           | inl e ↦ (let a = as_many h f m i at.0 le later (r.2 f f_in) in let b = ap back e in omega arith)
-          | inr ne ↦ (let a = more h f m i at.0 le later (r.2 f f_in) ne in omega arith)
+          | inr ne ↦ (omega (arith, more h f m i at.0 le later (r.2 f f_in) ne))
         ]

@@ -1,8 +1,7 @@
 -- The events of one flight keep a situation sound: it is cancelled, estimated again or added.
 use Rattle.std.proofs.Common.{◌≡◌, ℕ, suc, ◌<◌, ◌≤◌, inl, inr, Bool, true, false, cond, not, List, [], ◌∷◌, ◌++◌}
 use Rattle.std.proofs.Common.{length, map, filter, Option, Some, None, refl, sym, ap, subst, ◌∙◌, arith}
-use Rattle.std.specs.Prelude.{◌≢◌, option_map, find, is_none, nat_le, if◌then◌else◌}
-use Rattle.std.specs.List.{list_any}
+use Rattle.std.specs.Prelude.{◌≢◌, option_map, is_none, nat_le, if◌then◌else◌}
 use Rattle.std.proofs.lemmas.Bool.{false≢true, cases_Bool, cases_lt, le-leb, lt-leb}
 use Rattle.std.proofs.lemmas.Slice.Eq.{bytes_eq-Decides}
 use Rattle.std.proofs.lemmas.List.Kept.{AllPairs-filter}
@@ -28,19 +27,15 @@ use Rattle.landing_rules.specs.shared.Members.{none_found, none_any, fewer_filte
 pub cancelled : (s : Situation) (plan : Option Schedule) (c : Callsign) → IsSound s
     → IsSound (situation_after s plan (Cancel c))
 cancelled s plan c h =
-    let new : Situation = situation_after s plan (Cancel c) in
+    let new = situation_after s plan (Cancel c) in
     let test : Active → Bool = λ a. not (named c a) in
-    sound_again s new h refl
-    (differ_of new.active (AllPairs-filter (λ (a b : Active). a.flight.callsign ≢ b.flight.callsign)
-    test s.active h.callsigns))
-    (let l = fewer_kept test s.active in omega (arith, h.few_active)) (let l =
+    sound_again s new h refl (differ_of _ (AllPairs-filter (λ (a b : Active). a.flight.callsign ≢ b.flight.callsign)
+    _ _ h.callsigns)) (omega (arith, fewer_kept test s.active, h.few_active)) (let l =
     fewer_twice is_waiting test s.active in omega (arith, h.few_waiting)) h.few_closures
-    (λ a m. each_of s h a (in_filter test s.active a m).0)
-    (fewer_frozen s new h refl refl (omega arith)
-    (λ f m. let r = in_frozen new.active f m in subst (λ z. Member z (frozen_landings s)) (sym r.4)
-    (frozen_in s.active r.0 r.1 (in_filter test s.active r.0 r.2).0 r.3))
-    (λ a m. let r = in_filter is_waiting new.active a m in
-    (a, filter_in is_waiting s.active a (in_filter test s.active a r.0).0 r.1, refl)))
+    (λ a m. each_of s h a (in_filter _ _ a m).0) (fewer_frozen s new h refl refl (omega arith)
+    (λ f m. let r = in_frozen _ f m in rw r.4 (frozen_in _ r.0 r.1 (in_filter _ s.active r.0 r.2).0 r.3))
+    (λ a m. let r = in_filter _ _ a m in
+    (a, filter_in _ _ a (in_filter _ s.active a r.0).0 r.1, refl)))
 
 -- ---- estimate
 
@@ -62,29 +57,22 @@ pub re_estimated : (s : Situation) (plan : Option Schedule) (c : Callsign) (eta 
     → IsSound s → IsGoodEvent (Estimate c eta windows) → refusal s (Estimate c eta windows) ≡ None
     → IsSound (situation_after s plan (Estimate c eta windows))
 re_estimated s plan c eta windows h good ok =
-    let new : Situation = situation_after s plan (Estimate c eta windows) in
-    let f : Active → Active = estimated c eta windows in
+    let new = situation_after s plan (Estimate c eta windows) in
+    let f = estimated c eta windows in
     let wait : (a : Active) → is_waiting (f a) ≡ true → is_waiting a ≡ true =
-    λ a e. ap is_none (sym (estimate_frozen c eta windows a)) ∙ e in
-    sound_again s new h refl
-    (subst Differ (sym (callsigns_mapped f (estimate_callsign c eta windows) s.active))
-    (differ_of s.active h.callsigns))
-    (let l = length-map s.active f in omega (arith, h.few_active)) (let l =
-    fewer_filtered is_waiting is_waiting f s.active wait in omega (arith, h.few_waiting)) h.few_closures
-    (λ a m. let r = in_map f s.active a m in subst (λ (z : Active). IsGoodFlight z.flight × (z.passed ≤ s.aerodrome.k)
-    × (s.aerodrome.carry ≡ false → z.passed ≡ 0)) (sym r.2) (well r.0 (each_of s h r.0 r.1)))
-    (fewer_frozen s new h refl refl (omega arith)
-    (λ g m. let r = in_frozen new.active g m in let q = in_map f s.active r.0 r.2 in
-    let was : q.0.frozen ≡ Some r.1 = sym (estimate_frozen c eta windows q.0) ∙ ap (λ (z : Active). z.frozen) (sym q.2)
-    ∙ r.3 in
-    let same : r.0 ≡ q.0 = q.2 ∙ still q.0 q.1 r.1 was in
-    subst (λ z. Member z (frozen_landings s)) (ap (λ z. landing z r.1) (sym same) ∙ sym r.4)
-    (frozen_in s.active q.0 r.1 q.1 was))
-    (λ a m. let r = in_filter is_waiting new.active a m in let q = in_map f s.active a r.0 in (
+    λ a e. ap is_none (sym (estimate_frozen c eta _ a)) ∙ e in
+    sound_again s new h refl (rw (callsigns_mapped f (estimate_callsign c eta _) _) (differ_of _ h.callsigns))
+    (omega (arith, length-map s.active f, h.few_active)) (let l =
+    fewer_filtered is_waiting _ f s.active wait in omega (arith, h.few_waiting)) h.few_closures
+    (λ a m. let r = in_map f _ a m in rw r.2 (well r.0 (each_of s h r.0 r.1)))
+    (fewer_frozen s new h refl refl (omega arith) (λ g m. let r = in_frozen _ g m in let q = in_map f _ r.0 r.2 in
+    let was = sym (estimate_frozen c eta _ q.0) ∙ ap (λ (z : Active). z.frozen) (sym q.2) ∙ r.3 in
+    subst (λ z. Member z (frozen_landings s)) (ap (λ z. landing z r.1) (sym (q.2 ∙ still q.0 q.1 r.1 was)) ∙ sym r.4)
+    (frozen_in _ q.0 r.1 q.1 was))
+    (λ a m. let r = in_filter _ _ a m in let q = in_map f _ a r.0 in (
       q.0,
-      filter_in is_waiting s.active q.0 q.1 (wait q.0 (ap is_waiting (sym q.2) ∙ r.1)),
-      ap
-          (λ (z : Active). z.flight.callsign) q.2 ∙ estimate_callsign c eta windows q.0,
+      filter_in _ s.active q.0 q.1 (wait q.0 (ap is_waiting (sym q.2) ∙ r.1)),
+      ap (λ (z : Active). z.flight.callsign) q.2 ∙ estimate_callsign c eta _ q.0,
     )))
   where
     well : (a : Active) → IsGoodFlight a.flight × (a.passed ≤ s.aerodrome.k)
@@ -92,25 +80,13 @@ re_estimated s plan c eta windows h good ok =
         × ((estimated c eta windows a).passed ≤ s.aerodrome.k)
         × (s.aerodrome.carry ≡ false → (estimated c eta windows a).passed ≡ 0)
     well a w = elim (cases_Bool (named c a)) [
-      | inl e ↦ rw e (
-        record {
-          callsign = w.0.callsign;
-          eta = good.0;
-          weight = w.0.weight;
-          windows =
-              good.1;
-          after = w.0.after;
-        },
-        w.1,
-        w.2,
-      )
+      | inl e ↦ rw e (search)
       | inr e ↦ rw e w
     ]
 
     still : (a : Active) → Member a s.active → (t : ℕ) → a.frozen ≡ Some t → estimated c eta windows a ≡ a
-    still a m t e = elim (cases_Bool (named c a)) [
-      | inl q ↦ (let w : None ≡ Some t =
-          sym (named_waits s c h ok a m q) ∙ e in absurd (cc))
+    still a m t e = elim (cases_Bool _) [
+      | inl q ↦ (let w = sym (named_waits s c h ok a m q) ∙ e in absurd (cc))
       | inr q ↦ rw q
     ]
 
@@ -121,23 +97,21 @@ pub add_parts : (there : Bool) (flights wait : ℕ) (found : Option Landing) (c 
     else (if nat_le most_waiting wait then Some TooManyWaiting
     else option_map (λ (g : Landing). PredecessorOfFrozen g.flight.callsign) found))) ≡ None →
     (there ≡ false) × (flights < most_flights) × (wait < most_waiting) × (found ≡ None)
-add_parts true flights wait found c e = let w : Some (Duplicate c) ≡ None = e in absurd (cc)
+add_parts true flights wait found c e = absurd (cc)
 add_parts false flights wait None c e = elim (cases_lt flights most_flights) [
   | inl lt ↦ elim (cases_lt wait most_waiting) [
     | inl lt' ↦ (refl, lt, lt', refl)
-    | inr le ↦ (let w : Some TooManyWaiting ≡ None =
-        rw (lt-leb most_flights flights lt, le-leb most_waiting wait le) at e in absurd (cc))
+    | inr le ↦ (let w : Some TooManyWaiting ≡ None = rw (lt-leb _ _ lt, le-leb _ _ le) at e in absurd (cc))
   ]
-  | inr le ↦ (let w : Some TooManyFlights ≡ None = rw (le-leb most_flights flights le) at e in absurd (cc))
+  | inr le ↦ (let w : Some TooManyFlights ≡ None = rw (le-leb _ _ le) at e in absurd (cc))
 ]
-add_parts false flights wait (Some g) c e =
-    absurd (some_none (nat_le most_flights flights) (nat_le most_waiting wait) e)
+add_parts false flights wait (Some g) c e = absurd (some_none _ _ e)
   where
     some_none : (a b : Bool) → cond a (Some TooManyFlights)
         (cond b (Some TooManyWaiting) (Some (PredecessorOfFrozen g.flight.callsign))) ≡ None → ⊥
-    some_none true b e = let w : Some TooManyFlights ≡ None = e in cc
-    some_none false true e = let w : Some TooManyWaiting ≡ None = e in cc
-    some_none false false e = let w : Some (PredecessorOfFrozen g.flight.callsign) ≡ None = e in cc
+    some_none true b e = cc
+    some_none false true e = cc
+    some_none false false e = cc
 
 pub waiting_push : (xs : List Active) (f : Flight)
     → length (filter is_waiting (xs ++ newcomer f ∷ [])) ≡ suc (length (filter is_waiting xs))
@@ -149,9 +123,9 @@ differ_push : (xs : List Active) (a : Active) → Differ (callsigns xs)
     → ((x : Active) → Member x xs → x.flight.callsign ≢ a.flight.callsign) → Differ (callsigns (xs ++ a ∷ []))
 differ_push [] a d h = (λ c m. absurd m, tt)
 differ_push (x ∷ xs) a d h = (
-  λ c m. let r = in_map (λ (a : Active). a.flight.callsign) (xs ++ a ∷ []) c m in λ e. elim (in_push xs a r.0 r.1) [
-    | inl k ↦ d.0 r.0.flight.callsign (map_in (λ (a : Active). a.flight.callsign) xs r.0 k) (e ∙ r.2)
-    | inr q ↦ h x (inl refl) (e ∙ r.2 ∙ ap (λ (z : Active). z.flight.callsign) q)
+  λ c m. let r = in_map _ _ c m in λ e. elim (in_push xs a r.0 r.1) [
+    | inl k ↦ d.0 r.0.flight.callsign (map_in _ xs r.0 k) (e ∙ r.2)
+    | inr q ↦ h x (inl refl) (cc)
   ],
   differ_push xs a d.1 (λ y m. h y (inr m)),
 )
@@ -159,26 +133,22 @@ differ_push (x ∷ xs) a d h = (
 pub added : (s : Situation) (plan : Option Schedule) (f : Flight) → IsSound s → IsGoodEvent (Add f)
     → refusal s (Add f) ≡ None → IsSound (situation_after s plan (Add f))
 added s plan f h good ok =
-    let new : Situation = situation_after s plan (Add f) in
-    let p = add_parts (list_any (named f.callsign) s.active) (length s.active) (length (waiting s))
-    (find (λ g. lists g.flight f.callsign) (frozen_landings s)) f.callsign ok in
+    let new = situation_after s plan (Add f) in
+    let p = add_parts _ _ (length (waiting s)) _ _ ok in
     let k = kept s h in
     let was : (g : Landing) → Member g (frozen_landings new) → Member g (frozen_landings s) = λ g m.
-    let r = in_frozen new.active g m in
-    elim (in_push s.active (newcomer f) r.0 r.2) [
+    let r = in_frozen _ g m in
+    elim (in_push _ _ r.0 r.2) [
       | inl q ↦ subst (λ z. Member z (frozen_landings s)) (sym r.4) (frozen_in s.active r.0 r.1 q r.3)
-      | inr e ↦ let w : None ≡ Some r.1 = ap (λ (z : Active). z.frozen) (sym e) ∙ r.3 in absurd (cc)
+      | inr e ↦ absurd (cc)
     ] in
-    sound_again s new h refl
-    (differ_push s.active (newcomer f) (differ_of s.active h.callsigns)
-    (λ x m e. let n = none_any (named f.callsign) s.active x p.0 m in let y =
-    (bytes_eq-Decides x.flight.callsign f.callsign).1 e in false≢true (sym n ∙ y)))
-    (let l = length_push s.active (newcomer f) in omega (arith, p.1)) (let l =
+    sound_again s new h refl (differ_push _ _ (differ_of _ h.callsigns)
+    (λ x m e. let n = none_any (named f.callsign) _ x p.0 m in false≢true (sym n ∙ ((bytes_eq-Decides _ _).1 e))))
+    (omega (arith, length_push s.active (newcomer f), p.1)) (let l =
     waiting_push s.active f in omega (arith, p.2)) h.few_closures
-    (λ a m. elim (in_push s.active (newcomer f) a m) [
+    (λ a m. elim (in_push _ _ a m) [
       | inl q ↦ each_of s h a q
-      | inr e ↦ subst (λ (z : Active). IsGoodFlight z.flight × (z.passed ≤ s.aerodrome.k)
-          × (s.aerodrome.carry ≡ false → z.passed ≡ 0)) (sym e) (good, omega arith, λ q. refl)
+      | inr e ↦ rw e (good, omega arith, λ q. refl)
     ])
     (record {
       opened = λ g m. k.opened g (was g m);

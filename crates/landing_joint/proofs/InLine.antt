@@ -1,8 +1,7 @@
 -- A flight that stays in line through a run is passed by at most k flights: each kind of event keeps the counts.
-use Rattle.std.proofs.Common.{◌≡◌, ℕ, ◌+◌, ◌≤◌, inl, inr, true, false, not, length, filter, List, [], ◌∷◌, Option}
+use Rattle.std.proofs.Common.{◌≡◌, ℕ, ◌+◌, ◌≤◌, inl, inr, true, false, length, List, [], ◌∷◌, Option}
 use Rattle.std.proofs.Common.{Some, None, refl, sym, ap, ap₂, subst, ◌∙◌, arith}
-use Rattle.std.specs.Prelude.{All, is_none, find}
-use Rattle.std.specs.List.{list_any}
+use Rattle.std.specs.Prelude.{All, is_none}
 use Rattle.std.specs.declared.cmp.Ordering.{Ordering}
 use Rattle.std.specs.declared.cmp.Ordering.TheVariants.{Less, Equal, Greater}
 use Rattle.std.specs.Ordering.{is_lt, ordering_reverse}
@@ -13,14 +12,14 @@ use Rattle.std.proofs.lemmas.Slice.Eq.{bytes_eq-Decides}
 use Rattle.std.proofs.lemmas.Option.{same_Some}
 use Rattle.landing_rules.specs.Flights.{Active, Aerodrome, Callsign, Flight, Schedule, Situation, Span, is_waiting}
 use Rattle.landing_rules.specs.Flights.{waiting}
-use Rattle.landing_rules.specs.Rules.{arrival_cmp, lists, IsFeasible}
+use Rattle.landing_rules.specs.Rules.{arrival_cmp, IsFeasible}
 use Rattle.landing_rules.specs.Events.{Event, Estimate, Cancel, Add, Clock, Refusal, State, Step}
-use Rattle.landing_rules.specs.Events.{Answered, Run, IsPlanShown, estimated, frozen_landings, named, newcomer}
+use Rattle.landing_rules.specs.Events.{Answered, Run, estimated, named}
 use Rattle.landing_rules.specs.Events.{refusal, situation_after}
 use Rattle.landing_rules.specs.Sound.{IsSound, IsSoundState, IsGoodEvent}
 use Rattle.landing_rules.specs.shared.Counting.{cases, Member}
 use Rattle.landing_rules.specs.shared.Ranks.{arrival_total, level-callsign}
-use Rattle.landing_joint.specs.PassedOver.{waiting_flight, waits_in, is_ahead, stands_ahead, StaysInLine}
+use Rattle.landing_joint.specs.PassedOver.{waiting_flight, waits_in, is_ahead, StaysInLine}
 use Rattle.landing_joint.specs.PassedOver.{StaysInLineThrough, ArePassedAtLeast, passing_by_event, passing_flight}
 use Rattle.landing_joint.specs.PassedOver.{passing_in_step, passing_in_run, StepCountsLaw, FewPassLaw, FewPassLaterLaw}
 use Rattle.landing_joint.specs.PassedOver.{IsFirstInLine, FewPassFirstLaw, FewPassAnyoneLaw}
@@ -37,7 +36,7 @@ not_lt_itself : (f : Flight) → is_lt (arrival_cmp f f) ≡ false
 not_lt_itself f = ap is_lt (tied_itself arrival_total f)
 
 one_way : (f g : Flight) → is_lt (arrival_cmp f g) ≡ true → is_lt (arrival_cmp g f) ≡ false
-one_way f g e = ap is_lt (arrival_total.antisymm g f) ∙ go (arrival_cmp f g) e
+one_way f g e = ap is_lt (arrival_total.antisymm g f) ∙ go _ e
   where
     go : (o : Ordering) → is_lt o ≡ true → is_lt (ordering_reverse o) ≡ false
     go Less e = refl
@@ -47,7 +46,7 @@ one_way f g e = ap is_lt (arrival_total.antisymm g f) ∙ go (arrival_cmp f g) e
 -- who has another name and does not stand behind stands ahead
 ahead_of : (f g : Flight) → (f.callsign ≡ g.callsign → ⊥) → is_lt (arrival_cmp f g) ≡ false
     → is_lt (arrival_cmp g f) ≡ true
-ahead_of f g ne e = elim (cases (arrival_cmp f g)) [
+ahead_of f g ne e = elim (cases _) [
   | inl l ↦ absurd (false≢true (sym e ∙ ap is_lt l))
   | inr (inl q) ↦ absurd (ne (level-callsign f g q))
   | inr (inr q) ↦ ap is_lt (arrival_total.antisymm g f ∙ ap ordering_reverse q)
@@ -71,7 +70,7 @@ module _ (old new : Situation) (sound : IsSound new) (c : Callsign) (g : ℕ) (s
   at_old : (f x : Active) → waiting_flight old c ≡ Some f → Member x (waiting old)
       → is_lt (arrival_cmp f.flight x.flight) ≡ false → g ≤ x.passed
   at_old f x e m q = all_at (λ (x : Active). is_lt (arrival_cmp f.flight x.flight) ≡ false
-      → g ≤ x.passed) (waiting old) (least f e) x m q
+      → g ≤ x.passed) _ (least f e) x m q
 
   least_itself : (x : Active) → Member x (waiting new) → x.flight.callsign ≡ c → g ≤ x.passed
   least_itself x m e =
@@ -85,39 +84,35 @@ module _ (old new : Situation) (sound : IsSound new) (c : Callsign) (g : ℕ) (s
       → is_lt (arrival_cmp x.flight f.flight) ≡ true → g ≤ x.passed
   least_ahead f x e m q =
       let d = x.flight.callsign in
-      let now : stands_ahead new d c ≡ true = ap₂ is_ahead (is_found new sound d x m refl) e ∙ q in
-      let was = ahead_parts (waiting_flight old d) (waiting_flight old c) (line.nobody_new d now) in
+      let was = ahead_parts _ _ (line.nobody_new d (ap₂ is_ahead (is_found new sound d x m refl) e ∙ q)) in
       let a = was.0 in
       let ma = found old d a was.2 in
-      let l = at_old was.1 a was.3 ma.0 (one_way a.flight was.1.flight was.4) in
+      let l = at_old _ a was.3 ma.0 (one_way a.flight was.1.flight was.4) in
       let p = same x a m ma.0 ma.1 in
       omega arith
 
   quiet : ArePassedAtLeast g new c
   quiet f e = all_from (λ (x : Active). is_lt (arrival_cmp f.flight x.flight) ≡ false
-      → g ≤ x.passed) (waiting new) (λ x m q. elim (cases_Bool (named c x)) [
+      → g ≤ x.passed) _ (λ x m q. elim (cases_Bool _) [
         | inl b ↦ least_itself x m (named_is c x b)
         | inr b ↦ least_ahead f x e m (ahead_of f.flight x.flight (λ s.
-            let mf = found new c f e in
-            false≢true (sym b ∙ (bytes_eq-Decides x.flight.callsign c).1 (sym s ∙ mf.1))) q)
+            false≢true (sym b ∙ (bytes_eq-Decides _ c).1 (sym s ∙ (found new c f e).1))) q)
       ])
 
 -- of one name one waits
 one_waits : (s : Situation) → IsSound s → (a b : Active) → Member a (waiting s) → Member b (waiting s)
     → a.flight.callsign ≡ b.flight.callsign → a ≡ b
-one_waits s sound a b m n e = one_of_name s.active a b (differ_of s.active sound.callsigns)
-    (in_filter is_waiting s.active a m).0 (in_filter is_waiting s.active b n).0 e
+one_waits s sound a b m n e = one_of_name _ a b (differ_of _ sound.callsigns)
+    (in_filter _ _ a m).0 (in_filter _ _ b n).0 e
 
 same_active : (old new : Situation) → IsSound old → new.active ≡ old.active → SameCounts old new
-same_active old new sound e x a m n s =
-    ap (λ (z : Active). z.passed) (one_waits old sound x a (subst (λ l. Member x (filter is_waiting l)) e m) n (sym s))
+same_active old new sound e x a m n s = ap (λ (z : Active). z.passed) (one_waits old sound x a (rw e at m) n (sym s))
 
 same_cancelled : (s : Situation) (plan : Option Schedule) (c : Callsign) → IsSound s
     → SameCounts s (situation_after s plan (Cancel c))
 same_cancelled s plan c sound x a m n e =
-    let w = in_filter is_waiting (situation_after s plan (Cancel c)).active x m in
-    let v = in_filter (λ a. not (named c a)) s.active x w.0 in
-    ap (λ (z : Active). z.passed) (one_waits s sound x a (filter_in is_waiting s.active x v.0 w.1) n (sym e))
+    let w = in_filter _ _ x m in
+    ap (λ (z : Active). z.passed) (one_waits s sound x a (filter_in _ s.active x (in_filter _ _ x w.0).0 w.1) n (sym e))
 
 estimate_passed : (c : Callsign) (eta : ℕ) (windows : List Span) (a : Active)
     → (estimated c eta windows a).passed ≡ a.passed
@@ -126,27 +121,23 @@ estimate_passed c eta windows a = elim (cases_Bool (named c a)) [ inl e ↦ rw e
 same_estimated : (s : Situation) (plan : Option Schedule) (c : Callsign) (eta : ℕ) (windows : List Span)
     → IsSound s → SameCounts s (situation_after s plan (Estimate c eta windows))
 same_estimated s plan c eta windows sound x a m n e =
-    let f : Active → Active = estimated c eta windows in
-    let w = in_filter is_waiting (situation_after s plan (Estimate c eta windows)).active x m in
-    let r = in_map f s.active x w.0 in
-    let waits : is_waiting r.0 ≡ true = ap is_none (sym (estimate_frozen c eta windows r.0))
-    ∙ ap is_waiting (sym r.2) ∙ w.1 in
-    let name = sym (estimate_callsign c eta windows r.0) ∙ ap (λ (z : Active). z.flight.callsign) (sym r.2) ∙ sym e in
-    ap (λ (z : Active). z.passed) r.2 ∙ estimate_passed c eta windows r.0
-    ∙ ap (λ (z : Active). z.passed) (one_waits s sound r.0 a (filter_in is_waiting s.active r.0 r.1 waits) n name)
+    let w = in_filter _ _ x m in
+    let r = in_map (estimated c eta windows) _ x w.0 in
+    let waits = ap is_none (sym (estimate_frozen c eta _ r.0)) ∙ ap is_waiting (sym r.2) ∙ w.1 in
+    let name = sym (estimate_callsign c eta _ r.0) ∙ ap (λ (z : Active). z.flight.callsign) (sym r.2) ∙ sym e in
+    ap (λ (z : Active). z.passed) r.2 ∙ estimate_passed c eta _ r.0
+    ∙ ap (λ (z : Active). z.passed) (one_waits s sound r.0 a (filter_in _ s.active r.0 r.1 waits) n name)
 
 same_added : (s : Situation) (plan : Option Schedule) (f : Flight) → IsSound s → refusal s (Add f) ≡ None
     → SameCounts s (situation_after s plan (Add f))
 same_added s plan f sound ok x a m n e =
-    let p = add_parts (list_any (named f.callsign) s.active) (length s.active) (length (waiting s))
-    (find (λ g. lists g.flight f.callsign) (frozen_landings s)) f.callsign ok in
-    let w = in_filter is_waiting (situation_after s plan (Add f)).active x m in
-    elim (in_push s.active (newcomer f) x w.0) [
-      | inl q ↦ ap (λ (z : Active). z.passed) (one_waits s sound x a (filter_in is_waiting s.active x q w.1) n (sym e))
+    let p = add_parts _ _ (length (waiting s)) _ _ ok in
+    let w = in_filter _ _ x m in
+    elim (in_push _ _ x w.0) [
+      | inl q ↦ ap (λ (z : Active). z.passed) (one_waits s sound x a (filter_in _ s.active x q w.1) n (sym e))
       | inr q ↦
-          let absent = none_any (named f.callsign) s.active a p.0 (in_filter is_waiting s.active a n).0 in
-          absurd (false≢true (sym absent ∙ (bytes_eq-Decides a.flight.callsign f.callsign).1
-          (e ∙ ap (λ (z : Active). z.flight.callsign) q)))
+          absurd (false≢true (sym (none_any (named f.callsign) _ a p.0 (in_filter _ s.active a n).0) ∙
+          (bytes_eq-Decides _ _).1 (e ∙ ap (λ (z : Active). z.flight.callsign) q)))
     ]
 
 -- ---- an accepted event
@@ -157,7 +148,7 @@ Counted k c s g = (g ≤ k) × ArePassedAtLeast g s c
 
 -- where nobody passes
 none_more : (k : ℕ) (c : Callsign) (s : Situation) (g n : ℕ) → n ≡ 0 → Counted k c s g → Counted k c s (g + n)
-none_more k c s g n e h = subst (Counted k c s) (let z : g ≡ g + n = omega arith in z) h
+none_more k c s g n e h = rw (let z : g ≡ g + n = omega arith in z) at h
 
 none_pass : (old : State) (e : Event) → ((f : Flight) → passing_by_event old e f ≡ 0) → (o : Option Active)
     → passing_flight old e o ≡ 0
@@ -174,12 +165,11 @@ by_kind : (s : Situation) (P : Option Schedule → Event → Type 0) → IsSound
     ((t : Schedule) (now : ℕ) → P (Some t) (Clock now))
     → (plan : Option Schedule) (e : Event) → refusal s e ≡ None → P plan e
 by_kind s P sound still clock plan (Estimate d eta windows) ok =
-    still plan (Estimate d eta windows) (same_estimated s plan d eta windows sound) (λ f. refl)
+    still plan (Estimate d eta windows) (same_estimated s plan d eta _ sound) (λ f. refl)
 by_kind s P sound still clock plan (Cancel d) ok = still plan (Cancel d) (same_cancelled s plan d sound) (λ f. refl)
 by_kind s P sound still clock plan (Add x) ok = still plan (Add x) (same_added s plan x sound ok) (λ f. refl)
 by_kind s P sound still clock (Some t) (Clock now) ok = clock t now
-by_kind s P sound still clock plan e ok =
-    still plan e (same_active s (situation_after s plan e) sound refl) (λ f. refl)
+by_kind s P sound still clock plan e ok = still plan e (same_active s (situation_after s plan e) sound refl) (λ f. refl)
 
 event_counted : (s : Situation) (plan : Option Schedule) (c : Callsign) (g : ℕ) (e : Event)
     → IsSound s → ((t : Schedule) → plan ≡ Some t → IsFeasible s t) → s.aerodrome.carry ≡ true
@@ -188,16 +178,13 @@ event_counted : (s : Situation) (plan : Option Schedule) (c : Callsign) (g : ℕ
     → Counted s.aerodrome.k c (situation_after s plan e) (g + passing_in_step (state_of s plan) e None c)
 event_counted s plan c g e sound feasible carry here so_far good ok line =
     by_kind s Goal sound (λ plan e same none feasible good ok line.
-    let new : Situation = situation_after s plan e in
-    none_more s.aerodrome.k c new g (passing_in_step (state_of s plan) e None c)
-    (none_pass (state_of s plan) e none (waiting_flight s c))
+    let new = situation_after s plan e in
+    none_more _ c new g _ (none_pass (state_of s plan) e none _)
     (so_far.0, quiet s new (event_keeps_sound s plan e sound good feasible ok) c g same here line so_far.1))
     (λ t now feasible good ok line.
     let f = some_flight s c here in
     let r = clock_counts s t now c f.0 g sound carry (feasible t refl) ok f.1 line.waits so_far.1 in
-    subst (λ o. Counted s.aerodrome.k c (situation_after s (Some t) (Clock now))
-    (g + passing_flight (state_of s (Some t)) (Clock now) o)) (sym f.1) (r.few, r.counted))
-    plan e ok feasible good ok line
+    rw f.1 (r.few, r.counted)) plan e ok feasible good ok line
   where
     Goal : Option Schedule → Event → Type 0
     Goal plan e = ((t : Schedule) → plan ≡ Some t → IsFeasible s t) → IsGoodEvent e → refusal s e ≡ None
@@ -208,9 +195,8 @@ event_counted s plan c g e sound feasible carry here so_far good ok line =
 
 step_aerodrome : (old new : State) (e : Event) (answer : Option Refusal) → Step old e answer new
     → new.situation.aerodrome ≡ old.situation.aerodrome
-step_aerodrome old new e None step = ap (λ (s : Situation). s.aerodrome) step.effect.changed
-    ∙ aerodrome_stays old.situation old.plan e
-step_aerodrome old new e (Some r) step = ap (λ (s : State). s.situation.aerodrome) step.effect
+step_aerodrome old new e None step = ap (λ (s : Situation). s.aerodrome) step.effect.changed ∙ aerodrome_stays _ _ e
+step_aerodrome old new e (Some r) step = cc
 
 step_counted : (old new : State) (e : Event) (answer : Option Refusal) (c : Callsign) (g : ℕ)
     → IsSoundState old → IsGoodEvent e → Step old e answer new → old.situation.aerodrome.carry ≡ true
@@ -218,31 +204,27 @@ step_counted : (old new : State) (e : Event) (answer : Option Refusal) (c : Call
     Counted old.situation.aerodrome.k c old.situation g
     → Counted old.situation.aerodrome.k c new.situation (g + passing_in_step old e answer c)
 step_counted old new e (Some r) c g sound good step carry here line so_far =
-    none_more old.situation.aerodrome.k c new.situation g 0 refl
-    (subst (λ (s : State). Counted old.situation.aerodrome.k c s.situation g) (sym step.effect) so_far)
+    none_more _ c new.situation g 0 refl (rw step.effect so_far)
 step_counted old new e None c g sound good step carry here line so_far =
     let is = step.effect.changed in
-    subst (λ s. Counted old.situation.aerodrome.k c s (g + passing_in_step old e None c)) (sym is)
-    (event_counted old.situation old.plan c g e sound.situation
-    (λ t q. (subst (IsPlanShown old.situation) q sound.shown).0.feasible) carry here so_far good
-    (sym step.answered) (subst (StaysInLine c old.situation) is line))
+    rw is (event_counted _ _ c g e sound.situation (λ t q. (rw q at sound.shown).0.feasible) carry here so_far good
+    (cc) (rw is at line))
 
 run_counted : (old : State) (events : List Event) (answers : List Answered) (c : Callsign) (g : ℕ)
     → IsSoundState old → old.situation.aerodrome.carry ≡ true → All IsGoodEvent events → Run old events answers
     → waits_in old.situation c ≡ true → StaysInLineThrough c old answers →
     Counted old.situation.aerodrome.k c old.situation g
     → g + passing_in_run old events answers c ≤ old.situation.aerodrome.k
-run_counted old [] answers c g sound carry good run here line so_far = let a = so_far.0 in omega arith
+run_counted old [] answers c g sound carry good run here line so_far = omega arith
 run_counted old (e ∷ events) [] c g sound carry good run here line so_far = absurd run
 run_counted old (e ∷ events) (a ∷ answers) c g sound carry good run here line so_far =
-    let next = step_keeps_sound old a.state e a.answer sound (All-head IsGoodEvent e events good) run.0 in
-    let same = step_aerodrome old a.state e a.answer run.0 in
+    let next = step_keeps_sound old a.state e a.answer sound (All-head IsGoodEvent e _ good) run.0 in
+    let same = step_aerodrome old _ e _ run.0 in
     let d = passing_in_step old e a.answer c in
-    let now = step_counted old a.state e a.answer c g sound
-    (All-head IsGoodEvent e events good) run.0 carry here line.0 so_far in
+    let now = step_counted old _ e _ c g sound (All-head IsGoodEvent e _ good) run.0 carry here line.0 so_far in
     let now' = subst (λ (x : Aerodrome). Counted x.k c a.state.situation (g + d)) (sym same) now in
-    let rest = run_counted a.state events answers c (g + d) next (ap (λ (x : Aerodrome). x.carry) same ∙ carry)
-    (All-tail IsGoodEvent e events good) run.1 line.0.waits line.1 now' in
+    let rest = run_counted _ events _ c (g + d) next (cc)
+    (All-tail IsGoodEvent e _ good) run.1 line.0.waits line.1 now' in
     let k = ap (λ (x : Aerodrome). x.k) same in
     omega arith
 
@@ -253,29 +235,24 @@ least_low s sound c g here least =
     let f = some_flight s c here in
     let m = found s c f.0 f.1 in
     let own = all_at (λ (x : Active). is_lt (arrival_cmp f.0.flight x.flight) ≡ false
-    → g ≤ x.passed) (waiting s) (least f.0 f.1) f.0 m.0 (not_lt_itself f.0.flight) in
-    let most = all_at (λ (x : Active). x.passed ≤ s.aerodrome.k) s.active sound.passed f.0
-    (in_filter is_waiting s.active f.0 m.0).0 in
+    → g ≤ x.passed) _ (least f.0 f.1) f.0 m.0 (not_lt_itself f.0.flight) in
+    let most = all_at (λ (x : Active). x.passed ≤ s.aerodrome.k) _ sound.passed f.0 (in_filter _ _ f.0 m.0).0 in
     omega arith
 
 pub step_counts : StepCountsLaw
 step_counts old new e answer c g sound carry good step here line least =
-    let r = step_counted old new e answer c g sound good step carry here line
-    (least_low old.situation sound.situation c g here least, least) in
+    let r = step_counted old new e _ c g sound good step carry here line
+    (least_low _ sound.situation c g here least, least) in
     record { few = r.0; counted = r.1 }
 
 pub few_pass_later : FewPassLaterLaw
 few_pass_later old events answers c g sound carry good run here line least =
-    run_counted old events answers c g sound carry good run here line
-    (least_low old.situation sound.situation c g here least, least)
+    run_counted old _ _ c g sound carry good run here line (least_low _ sound.situation c g here least, least)
 
 pub few_pass : FewPassLaw
 few_pass old events answers c sound carry good run here line =
-    let none : ArePassedAtLeast 0 old.situation c =
-    λ f e. all_from (λ (x : Active). is_lt (arrival_cmp f.flight x.flight) ≡ false → 0 ≤ x.passed)
-    (waiting old.situation) (λ x m q. omega arith) in
-    let few = few_pass_later old events answers c 0 sound carry good run here line none in
-    omega arith
+    let none : ArePassedAtLeast 0 old.situation c = omega arith in
+    omega (arith, few_pass_later old events answers c 0 sound carry good run here line none)
 
 -- ---- the first in line
 
@@ -283,21 +260,20 @@ stays_in_line : (c : Callsign) (old : State) (answers : List Answered)
     → All (λ a. IsFirstInLine c a.state.situation) answers → StaysInLineThrough c old answers
 stays_in_line c old [] h = tt
 stays_in_line c old (a ∷ answers) h =
-    let first = All-head (λ (a : Answered). IsFirstInLine c a.state.situation) a answers h in (
+    let first = All-head (λ (a : Answered). IsFirstInLine c a.state.situation) a _ h in (
       record { waits = first.waits; nobody_new = λ d e. absurd (false≢true (sym (first.nobody d) ∙ e)) },
-      stays_in_line c a.state answers (All-tail (λ (a : Answered). IsFirstInLine c a.state.situation) a answers h),
+      stays_in_line c _ answers (All-tail (λ (a : Answered). IsFirstInLine c a.state.situation) a _ h),
     )
 
 -- nobody else does not stand behind it
 alone_ahead : (s : Situation) → IsSound s → (c : Callsign) (f x : Active) → waiting_flight s c ≡ Some f
     → IsFirstInLine c s → Member x (waiting s) → is_lt (arrival_cmp f.flight x.flight) ≡ false → f ≡ x
-alone_ahead s sound c f x e first m q = elim (cases_Bool (named c x)) [
+alone_ahead s sound c f x e first m q = elim (cases_Bool _) [
   | inl b ↦ one_waits s sound f x mf.0 m (mf.1 ∙ sym (named_is c x b))
   | inr b ↦
       let d = x.flight.callsign in
       let other = λ (z : f.flight.callsign ≡ d). false≢true (sym b ∙ (bytes_eq-Decides d c).1 (sym z ∙ mf.1)) in
-      let ahead : stands_ahead s d c ≡ true = ap₂ is_ahead (is_found s sound d x m refl) e
-      ∙ ahead_of f.flight x.flight other q in
+      let ahead = ap₂ is_ahead (is_found s sound d x m refl) e ∙ ahead_of f.flight x.flight other q in
       absurd (false≢true (sym (first.nobody d) ∙ ahead))
 ]
   where
@@ -308,13 +284,12 @@ pub few_pass_first : FewPassFirstLaw
 few_pass_first old events answers c f sound carry good run here first rest =
     let s = old.situation in
     let least : ArePassedAtLeast f.passed s c =
-    λ b e. all_from (λ (x : Active). is_lt (arrival_cmp b.flight x.flight) ≡ false → f.passed ≤ x.passed)
-    (waiting s) (λ x m q.
-    let same = ap (λ (z : Active). z.passed) (same_Some f b (sym here ∙ e)
-    ∙ alone_ahead s sound.situation c b x e first m q) in
-    omega arith) in
-    few_pass_later old events answers c f.passed sound carry good run first.waits
-    (stays_in_line c old answers rest) least
+    λ b e. all_from (λ (x : Active). is_lt (arrival_cmp b.flight x.flight) ≡ false → f.passed ≤ x.passed) _ (λ x m q.
+    omega (
+      arith,
+      ap (λ (z : Active). z.passed) (same_Some f b (sym here ∙ e) ∙ alone_ahead s sound.situation c b x e first m q),
+    )) in
+    few_pass_later old events answers c f.passed sound carry good run first.waits (stays_in_line c old _ rest) least
 
 -- ---- where k is at most 1
 
@@ -333,11 +308,9 @@ event_exactly s plan e c sound feasible carry low ok =
     let mg = found (situation_after s plan e) c g later in
     let p = same g f mg.0 mf.0 (mf.1 ∙ sym mg.1) in
     let z = none_pass (state_of s plan) e none (waiting_flight s c) in
-    omega arith)
-    (λ t now feasible ok f g here later.
+    omega arith) (λ t now feasible ok f g here later.
     clock_counts_exactly s t now c f g sound carry low (feasible t refl) ok here later
-    ∙ ap (λ o. f.passed + passing_flight (state_of s (Some t)) (Clock now) o) (sym here))
-    plan e ok feasible ok
+    ∙ ap (λ o. f.passed + passing_flight (state_of s (Some t)) (Clock now) o) (sym here)) _ e ok feasible ok
   where
     Goal : Option Schedule → Event → Type 0
     Goal plan e = ((t : Schedule) → plan ≡ Some t → IsFeasible s t) → refusal s e ≡ None
@@ -347,28 +320,25 @@ step_exactly : (old new : State) (e : Event) (answer : Option Refusal) (c : Call
     → Step old e answer new → old.situation.aerodrome.carry ≡ true → old.situation.aerodrome.k ≤ 1
     → CountsExactly old e answer new c
 step_exactly old new e (Some r) c sound step carry low f g here later =
-    let same = ap (λ (z : Active). z.passed)
-    (same_Some f g (sym here ∙ ap (λ (s : State). waiting_flight s.situation c) (sym step.effect) ∙ later)) in
-    omega arith
+    omega (arith, ap (λ (z : Active). z.passed) (same_Some f g (cc)))
 step_exactly old new e None c sound step carry low f g here later =
     event_exactly old.situation old.plan e c sound.situation
-    (λ t q. (subst (IsPlanShown old.situation) q sound.shown).0.feasible) carry low (sym step.answered) f g here
-    (ap (λ s. waiting_flight s c) (sym step.effect.changed) ∙ later)
+    (λ t q. (rw q at sound.shown).0.feasible) carry low (cc) f g here (cc)
 
 pub few_pass_anyone : FewPassAnyoneLaw
 few_pass_anyone old [] answers c f sound carry low good run here waited =
     let s = old.situation in
-    let most = all_at (λ (x : Active). x.passed ≤ s.aerodrome.k) s.active sound.situation.passed f
-    (in_filter is_waiting s.active f (found s c f here).0).0 in
+    let most = all_at (λ (x : Active). x.passed ≤ s.aerodrome.k) _ sound.situation.passed f
+    (in_filter _ _ f (found s c f here).0).0 in
     omega arith
 few_pass_anyone old (e ∷ events) [] c f sound carry low good run here waited = absurd run
 few_pass_anyone old (e ∷ events) (a ∷ answers) c f sound carry low good run here waited =
-    let next = step_keeps_sound old a.state e a.answer sound (All-head IsGoodEvent e events good) run.0 in
-    let same = step_aerodrome old a.state e a.answer run.0 in
+    let next = step_keeps_sound old a.state e a.answer sound (All-head IsGoodEvent e _ good) run.0 in
+    let same = step_aerodrome old _ e _ run.0 in
     let waits = λ (a : Answered). waits_in a.state.situation c ≡ true in
-    let g = some_flight a.state.situation c (All-head waits a answers waited) in
+    let g = some_flight a.state.situation c (All-head waits a _ waited) in
     let now = step_exactly old a.state e a.answer c sound run.0 carry low f g.0 here g.1 in
     let k = ap (λ (x : Aerodrome). x.k) same in
-    let rest = few_pass_anyone a.state events answers c g.0 next (ap (λ (x : Aerodrome). x.carry) same ∙ carry)
-    (omega arith) (All-tail IsGoodEvent e events good) run.1 g.1 (All-tail waits a answers waited) in
+    let rest = few_pass_anyone a.state events answers c g.0 next (cc)
+    (omega arith) (All-tail IsGoodEvent e _ good) run.1 g.1 (All-tail waits a _ waited) in
     omega arith

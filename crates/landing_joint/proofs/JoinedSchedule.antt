@@ -6,7 +6,7 @@ use Rattle.std.specs.Prelude.{Option, Some, None, unwrap_or, is_none}
 use Rattle.std.specs.List.{AllZip}
 use Rattle.std.specs.Ordering.{is_lt}
 use Rattle.std.proofs.lemmas.List.Elements.{AllZip-get_or}
-use Rattle.landing_rules.specs.Flights.{Active, Situation, Schedule, is_waiting, waiting}
+use Rattle.landing_rules.specs.Flights.{Active, Situation, Schedule, waiting}
 use Rattle.landing_rules.specs.Rules.{arrival_cmp, rank, IsTight, HaveSameOrder}
 use Rattle.landing_rules.specs.Problem as lists'
 use Rattle.landing_rules.specs.Sound.{IsSound}
@@ -30,9 +30,8 @@ module _ (s : Situation) (sound : IsSound s) where
   waiting_are : map (λ (b : Active). b.flight) (waiting s) ≡ map (λ i. (numbered s.active i).flight)
       (numbered_situation s).waiting
   waiting_are =
-      ap (λ l. map (λ (b : Active). b.flight) l) (ap (filter is_waiting) (active_are s.active)
-      ∙ filter_map_is is_waiting (numbered s.active) (numbers_of s.active))
-      ∙ map_map (λ (b : Active). b.flight) (numbered s.active) (numbered_situation s).waiting
+      ap (λ l. map (λ (b : Active). b.flight) l) (ap (filter _) (active_are s.active)
+      ∙ filter_map_is _ _ (numbers_of s.active)) ∙ map_map _ _ _
 
   -- the rank of a flight among the waiting flights
   pub rank_is : (i : ℕ) → In i (numbers_of s.active)
@@ -41,12 +40,8 @@ module _ (s : Situation) (sound : IsSound s) where
   rank_is i m =
       let w = (numbered_situation s).waiting in
       let f = (numbered s.active i).flight in
-      let e : count_by (λ g. is_lt (arrival_cmp g f)) (map (λ (b : Active). b.flight) (waiting s)) ≡ count_by
-      (λ j. comes_before s.active j i) w =
-      ap (count_by (λ g. is_lt (arrival_cmp g f))) waiting_are
-      ∙ count_by_map (λ g. is_lt (arrival_cmp g f)) (λ j. (numbered s.active j).flight) w
-      ∙ count_by_agree (λ j. is_lt (arrival_cmp (numbered s.active j).flight f)) (λ j. comes_before s.active j i) w
-      (λ j k. sym (comes_is s sound j i (in_filter (waits_at s.active) j (numbers_of s.active) k).0 m)) in
+      let e = ap (count_by (λ g. is_lt (arrival_cmp g f))) waiting_are ∙ count_by_map _ _ w
+      ∙ count_by_agree _ _ w (λ j k. sym (comes_is s sound j i (in_filter _ j _ k).0 m)) in
       omega arith
 
   second_by : (v : Schedule) (r n : ℕ) → r ≡ suc n → get_or v (r - 1) 0 ≡ of_rank 0 v (suc n)
@@ -55,9 +50,7 @@ module _ (s : Situation) (sound : IsSound s) where
   second_is : (v : Schedule) (i : ℕ) → In i (numbers_of s.active) → lists'.joined_second s v (numbered s.active i) ≡
       cond (waits_at s.active i) (of_rank 0 v (rank_in (comes_before s.active) (numbered_situation s).waiting i))
       ((numbered_situation s).frozen_at i)
-  second_is v i m = go (numbered s.active i).frozen
-      (second_by v (rank (map (λ (b : Active). b.flight) (waiting s)) (numbered s.active i).flight)
-      (count_by (λ g. comes_before s.active g i) (numbered_situation s).waiting) (rank_is i m))
+  second_is v i m = go (numbered s.active i).frozen (second_by v _ _ (rank_is i m))
     where
       go : (o : Option ℕ) {x y : ℕ} → x ≡ y → unwrap_or o x ≡ cond (is_none o) y (unwrap_or o 0)
       go None e = e
@@ -65,32 +58,25 @@ module _ (s : Situation) (sound : IsSound s) where
 
   -- both say one schedule
   pub joined_in_words : (v : Schedule) → lists'.joined s v ≡ joined s v
-  joined_in_words v =
-      ap (map (lists'.joined_second s v)) (active_are s.active)
-      ∙ map_map (lists'.joined_second s v) (numbered s.active) (numbers_of s.active)
-      ∙ map_agree (λ i. lists'.joined_second s v (numbered s.active i))
-      (λ i. cond (waits_at s.active i)
-      (of_rank 0 v (rank_in (comes_before s.active) (numbered_situation s).waiting i))
-      ((numbered_situation s).frozen_at i)) (numbers_of s.active) (second_is v)
+  joined_in_words v = ap (map _) (active_are _) ∙ map_map _ _ _ ∙ map_agree _ _ _ (second_is v)
 
 module _ (s : Situation) (sound : IsSound s) (p : lists'.Problem) (of : lists'.IsProblemOf s p) where
   -- the seconds of two ranks, in a list and in the schedule that it gives
   order_kept : (v w : Schedule) → length v ≡ length p.flights → HaveSameOrder (joined s v) (joined s w)
       → HaveSameOrder v w
   order_kept v w long same i j li lj =
-      let qi : IsRank (length p.flights) (suc i) = (omega arith, omega arith) in
-      let qj : IsRank (length p.flights) (suc j) = (omega arith, omega arith) in
-      let bi = in_numbers 0 (length s.active) (number_at s (suc i)) (among s sound p of (suc i) qi) in
-      let bj = in_numbers 0 (length s.active) (number_at s (suc j)) (among s sound p of (suc j) qj) in
+      let qi : IsRank (length p.flights) (suc i) = omega arith in
+      let qj : IsRank (length p.flights) (suc j) = omega arith in
+      let bj = in_numbers 0 _ _ (among s sound p of _ qj) in
       let n = joined_long s sound p of v in
-      let o = same (number_at s (suc i)) (number_at s (suc j)) (omega (arith, bi.1, n)) (omega (arith, bj.1, n)) in
-      let vi : second_of (joined s v) (number_at s (suc i)) ≡ get_or v i 0 = joined_rank s sound p of v (suc i) qi in
-      let vj : second_of (joined s v) (number_at s (suc j)) ≡ get_or v j 0 = joined_rank s sound p of v (suc j) qj in
-      let wi : second_of (joined s w) (number_at s (suc i)) ≡ get_or w i 0 = joined_rank s sound p of w (suc i) qi in
-      let wj : second_of (joined s w) (number_at s (suc j)) ≡ get_or w j 0 = joined_rank s sound p of w (suc j) qj in (
+      let o = same (number_at s (suc i)) (number_at s (suc j))
+      (omega (arith, (in_numbers 0 _ _ (among s sound p of _ qi)).1, n)) (omega (arith, bj.1, n)) in
+      let vi = joined_rank s sound p of v _ qi in
+      let vj = joined_rank s sound p of v _ qj in
+      let wi = joined_rank s sound p of w _ qi in
+      let wj = joined_rank s sound p of w _ qj in (
         λ lt. let a = o.0 (omega (arith, vi, vj, lt)) in omega (arith, wi, wj, a),
-        λ lt. let a =
-            o.1 (omega (arith, wi, wj, lt)) in omega (arith, vi, vj, a),
+        λ lt. omega (arith, vi, vj, o.1 (omega (arith, wi, wj, lt))),
       )
 
   earlier_kept : (v w : Schedule) → length v ≡ length p.flights → AllZip (λ a b. a ≤ b) v w
@@ -98,20 +84,19 @@ module _ (s : Situation) (sound : IsSound s) (p : lists'.Problem) (of : lists'.I
   earlier_kept v w long le =
       let nv = joined_long s sound p of v in
       let nw = joined_long s sound p of w in
-      let each = each_number s sound p of (λ i. second_of (joined s v) i ≤ second_of (joined s w) i)
+      let each = each_number s sound p of _
       (waits v w long le) (λ i m. let a = joined_frozen s sound p of v i m in let b =
       joined_frozen s sound p of w i m in omega arith) in
-      zip_of (joined s v) (joined s w) (omega arith)
-      (λ i lt. each i (numbers_in 0 (length s.active) i zero-le (omega arith)))
+      zip_of _ _ (omega arith) (λ i lt. each i (numbers_in 0 _ i zero-le (omega arith)))
     where
       waits : (v w : Schedule) → length v ≡ length p.flights → AllZip (λ a b. a ≤ b) v w → (r : ℕ)
           → IsRank (length p.flights) r → second_of (joined s v) (number_at s r) ≤ second_of
           (joined s w) (number_at s r)
-      waits v w long le zero q = absurd (let a = q.0 in omega arith)
+      waits v w long le zero q = omega arith
       waits v w long le (suc i) q =
-          let a : second_of (joined s v) (number_at s (suc i)) ≡ get_or v i 0 = joined_rank s sound p of v (suc i) q in
-          let b : second_of (joined s w) (number_at s (suc i)) ≡ get_or w i 0 = joined_rank s sound p of w (suc i) q in
-          let c = AllZip-get_or (λ a b. a ≤ b) v w i 0 0 le (let z = q.1 in omega arith) in
+          let a = joined_rank s sound p of v _ q in
+          let b = joined_rank s sound p of w _ q in
+          let c = AllZip-get_or _ v w i 0 0 le (omega (arith, q.1)) in
           omega arith
 
   -- a tight list gives a tight schedule
@@ -120,7 +105,6 @@ module _ (s : Situation) (sound : IsSound s) (p : lists'.Problem) (of : lists'.I
     feasible = list_gives_schedule s sound p of v t.feasible;
     earliest = λ u f o.
         let w = schedule_gives_list s sound p of u f in
-        let same : HaveSameOrder (joined s v) (joined s w.0) = subst (λ x. HaveSameOrder (joined s v) x) w.2 o in
-        subst (λ x. AllZip (λ a b. a ≤ b) (joined s v) x) (sym w.2)
-        (earlier_kept v w.0 t.feasible.one_each (t.earliest w.0 w.1 (order_kept v w.0 t.feasible.one_each same)));
+        subst (λ x. AllZip (λ a b. a ≤ b) (joined s v) x) (sym w.2) (earlier_kept v w.0 t.feasible.one_each
+        (t.earliest w.0 w.1 (order_kept v w.0 t.feasible.one_each (subst (λ x. HaveSameOrder (joined s v) x) w.2 o))));
   }

@@ -9,7 +9,7 @@ use Rattle.std.specs.Ordering.{nat_cmp, ordering_then, ordering_reverse, is_lt}
 use Rattle.std.specs.Cmp.{IsTotalOrder}
 use Rattle.std.proofs.lemmas.Cmp.{then_total, on_total, nat_cmp_total, tied_itself}
 use Rattle.std.proofs.lemmas.Map.Lookups.{exact_unsigned}
-use Rattle.landing_rules.specs.Flights.{Active, Situation, Schedule, Landing, landing, landings, is_waiting, waiting}
+use Rattle.landing_rules.specs.Flights.{Active, Situation, Schedule, Landing, landing, landings, waiting}
 use Rattle.landing_rules.specs.Flights.{horizon}
 use Rattle.landing_rules.specs.Rules.{last_second, is_open, lists, arrival_cmp, waits, rank_among, place}
 use Rattle.landing_rules.specs.Rules.{ArePairSeparated, IsPairInPrecedence, IsShiftKept, IsFrozenKept, IsFeasible}
@@ -48,15 +48,15 @@ number_level all i j e = exact_unsigned i j (second_equal _ _ e)
 
 pub first_come : (all : List Active) → FirstCome (comes_before all)
 first_come all = record {
-  one_way = λ a b e. let l =
-      is_lt-Less (by_number all a b) e in ap is_lt ((number_total all).antisymm b a ∙ ap ordering_reverse l);
+  one_way = λ a b e. ap is_lt
+      ((number_total all).antisymm b a ∙ ap ordering_reverse (is_lt-Less (by_number all a b) e));
   chain = λ a b c e f. ap is_lt ((number_total all).trans a b c (is_lt-Less (by_number all a b) e)
       (is_lt-Less (by_number all b c) f));
   total = λ a b ne e. ap is_lt ((number_total all).antisymm b a ∙ ap ordering_reverse (greater a b ne e));
 }
   where
     greater : (a b : ℕ) → a ≢ b → is_lt (by_number all a b) ≡ false → by_number all a b ≡ Greater
-    greater a b ne e = elim (cases (by_number all a b)) [
+    greater a b ne e = elim (cases _) [
       | inl l ↦ absurd (false≢true (sym e ∙ ap is_lt l))
       | inr (inl q) ↦ absurd (ne (number_level all a b q))
       | inr (inr g) ↦ g
@@ -83,28 +83,27 @@ some_of (Some u) e = refl
 
 module _ (s : Situation) (sound : IsSound s) where
   pub among : (i : ℕ) → In i (numbers.active (numbered_situation s)) → In i (numbers_of s.active)
-  among i m = elim (in_append i (numbered_situation s).frozen (numbered_situation s).waiting m) [
-    | inl j ↦ (in_filter (λ x. not (waits_at s.active x)) i (numbers_of s.active) j).0
-    | inr j ↦ (in_filter (waits_at s.active) i (numbers_of s.active) j).0
+  among i m = elim (in_append i _ _ m) [
+    | inl j ↦ (in_filter _ i _ j).0
+    | inr j ↦ (in_filter (waits_at s.active) i _ j).0
   ]
 
   pub all_among : (i : ℕ) → In i (numbers_of s.active) → In i (numbers.active (numbered_situation s))
-  all_among i m = append_in i (numbered_situation s).frozen (numbered_situation s).waiting
-      (elim (cases_Bool (waits_at s.active i)) [
-        | inl w ↦ inr (filter_in (waits_at s.active) i (numbers_of s.active) m w)
-        | inr w ↦ inl (filter_in (λ x. not (waits_at s.active x)) i (numbers_of s.active) m (ap not w))
+  all_among i m = append_in i _ _
+      (elim (cases_Bool _) [
+        | inl w ↦ inr (filter_in (waits_at s.active) i _ m w)
+        | inr w ↦ inl (filter_in _ i _ m (ap not w))
       ])
 
   -- different flights have different callsigns
   pub callsigns_differ : (i j : ℕ) → In i (numbers_of s.active) → In j (numbers_of s.active)
       → i ≢ j → (numbered s.active i).flight.callsign ≢ (numbered s.active j).flight.callsign
   callsigns_differ i j mi mj ne e =
-      let bi = in_numbers 0 (length s.active) i mi in
-      let bj = in_numbers 0 (length s.active) j mj in
+      let bj = in_numbers 0 _ j mj in
       elim (cases_order i j) [
         | inl q ↦ ne q
         | inr (inl lt) ↦ sound.callsigns i j nobody lt (omega (arith, bj.1)) e
-        | inr (inr lt) ↦ sound.callsigns j i nobody lt (omega (arith, bi.1)) (sym e)
+        | inr (inr lt) ↦ sound.callsigns j i nobody lt (omega (arith, (in_numbers 0 _ i mi).1)) (sym e)
       ]
 
   -- among the flights the order is that of arrival
@@ -113,8 +112,7 @@ module _ (s : Situation) (sound : IsSound s) where
   comes_is i j mi mj = elim (cases_eq i j) [
     | inl e ↦ subst (λ x. comes_before s.active i x ≡ is_lt
         (arrival_cmp (numbered s.active i).flight (numbered s.active x).flight)) e (itself i)
-    | inr ne ↦ ap is_lt (then_not_equal (arrival_cmp (numbered s.active i).flight (numbered s.active j).flight)
-        (nat_cmp i j) (λ q. callsigns_differ i j mi mj ne
+    | inr ne ↦ ap is_lt (then_not_equal _ _ (λ q. callsigns_differ i j mi mj ne
         (level-callsign (numbered s.active i).flight (numbered s.active j).flight q)))
   ]
     where
@@ -126,8 +124,7 @@ module _ (s : Situation) (sound : IsSound s) where
   module _ (t : Schedule) (long : length t ≡ length s.active) where
     -- ranks and places among the waiting
     waiting_are : filter waits (landings s.active t) ≡ map (landing_at s.active t) (numbered_situation s).waiting
-    waiting_are = ap (filter waits) (landings_are s.active t long)
-        ∙ filter_map_is waits (landing_at s.active t) (numbers_of s.active)
+    waiting_are = ap (filter _) (landings_are _ t long) ∙ filter_map_is _ _ (numbers_of s.active)
 
     rank_is : (i : ℕ) → In i (numbers_of s.active)
         → rank_among (map (landing_at s.active t) (numbered_situation s).waiting) (landing_at s.active t i) ≡ rank_in
@@ -137,11 +134,8 @@ module _ (s : Situation) (sound : IsSound s) where
         let f = (numbered s.active i).flight in
         let e : count_by (λ g. is_lt (arrival_cmp g f))
         (map (λ (g : Landing). g.flight) (map (landing_at s.active t) w)) ≡ count_by
-        (λ j. comes_before s.active j i) w =
-        ap (count_by (λ g. is_lt (arrival_cmp g f))) (map_map (λ (g : Landing). g.flight) (landing_at s.active t) w)
-        ∙ count_by_map (λ g. is_lt (arrival_cmp g f)) (λ j. (numbered s.active j).flight) w
-        ∙ count_by_agree (λ j. is_lt (arrival_cmp (numbered s.active j).flight f)) (λ j. comes_before s.active j i) w
-        (λ j k. sym (comes_is j i (in_filter (waits_at s.active) j (numbers_of s.active) k).0 m)) in
+        (λ j. comes_before s.active j i) w = ap (count_by (λ g. is_lt (arrival_cmp g f))) (map_map _ _ w)
+        ∙ count_by_map _ _ w ∙ count_by_agree _ _ w (λ j k. sym (comes_is j i (in_filter _ j _ k).0 m)) in
         omega arith
 
     place_is : (i : ℕ) → place (map (landing_at s.active t) (numbered_situation s).waiting)
@@ -150,20 +144,19 @@ module _ (s : Situation) (sound : IsSound s) where
         let w = (numbered_situation s).waiting in
         let e : count_by (λ (g : Landing). nat_lt g.second (second_of t i)) (map (landing_at s.active t) w) ≡ count_by
         (λ j. nat_lt (second_of t j) (second_of t i)) w =
-        count_by_map (λ (g : Landing). nat_lt g.second (second_of t i)) (landing_at s.active t) w in
+        count_by_map _ _ w in
         omega arith
 
     pub passed_low : (i : ℕ) → In i (numbers_of s.active) → (numbered s.active i).passed ≤ s.aerodrome.k
-    passed_low i m = let b = in_numbers 0 (length s.active) i m in sound.passed i nobody (omega (arith, b.1))
+    passed_low i m = sound.passed i nobody (omega (arith, (in_numbers 0 _ i m).1))
 
     pub feasible_numbered : IsFeasible s t → numbers.FeasibleIn (numbered_situation s) (second_of t)
     feasible_numbered f =
         let ls = landings s.active t in
         let r = f.1 in
-        let same = landings_are s.active t long in
         let each : (P : Landing → Type 0) → All P ls → (i : ℕ) → In i (numbers_of s.active)
         → P (landing_at s.active t i) =
-        λ P a i m. all_at P (landing_at s.active t) (numbers_of s.active) (subst (All P) same a) i m in
+        λ P a i m. all_at P _ _ (rw (landings_are _ t long) at a) i m in
         record {
           kept = λ i m. let w = in_filter (λ x. not (waits_at s.active x)) i (numbers_of s.active) m in
               kept_of (numbered s.active i).frozen (horizon s) (second_of t i) w.1
@@ -182,25 +175,21 @@ module _ (s : Situation) (sound : IsSound s) where
               (each (λ g. All (IsPairInPrecedence g) ls) r.in_precedence i (among i mi)) j (among j mj) l;
           shifted = λ i m.
               let w = (numbered_situation s).waiting in
-              let n = (in_filter (waits_at s.active) i (numbers_of s.active) m).0 in
               let k = all_at (IsShiftKept s.aerodrome.k (map (landing_at s.active t) w)) (landing_at s.active t) w
               (subst (λ l. All (IsShiftKept s.aerodrome.k l) l) waiting_are r.shift) i m in
-              let a = rank_is i n in
+              let a = rank_is i ((in_filter (waits_at s.active) i (numbers_of s.active) m).0) in
               let b = place_is i in
-              let c = passed_low i n in
               (omega (arith, k.0), omega (arith, k.1));
         }
 
     pub numbered_feasible : numbers.FeasibleIn (numbered_situation s) (second_of t) → IsFeasible s t
     numbered_feasible f =
-        let same = landings_are s.active t long in
         let from : (P : Landing → Type 0) → ((i : ℕ) → In i (numbers_of s.active) → P (landing_at s.active t i))
         → All P (landings s.active t) =
-        λ P h. subst (All P) (sym same) (at_all P (landing_at s.active t) (numbers_of s.active) h) in (
+        λ P h. rw (landings_are _ t long) (at_all P _ _ h) in (
           long,
           record {
-            in_days = from (λ g. g.second ≤ last_second)
-                (λ i m. leb-true (second_of t i) last_second
+            in_days = from (λ g. g.second ≤ last_second) (λ i m. leb-true (second_of t i) last_second
                 (and_parts (nat_le (second_of t i) last_second)
                 (is_open (numbered s.active i).flight.windows s.closures (second_of t i))
                 (f.opened i (all_among i m))).0);
@@ -210,8 +199,7 @@ module _ (s : Situation) (sound : IsSound s) where
                 (f.opened i (all_among i m))).1);
             separated = from (λ g. All (ArePairSeparated s.aerodrome.table g) (landings s.active t))
                 (λ i m. from (ArePairSeparated s.aerodrome.table (landing_at s.active t i)) (λ j k ne le.
-                f.separated i j (all_among i m) (all_among j k)
-                (λ e. ne (ap (λ x. (numbered s.active x).flight.callsign) e)) le));
+                f.separated i j (all_among i m) (all_among j k) (λ e. ne (cc)) le));
             in_precedence = from (λ g. All (IsPairInPrecedence g) (landings s.active t))
                 (λ i m. from (IsPairInPrecedence (landing_at s.active t i))
                 (λ j k l. f.in_order i j (all_among i m) (all_among j k) l));
@@ -235,33 +223,28 @@ module _ (s : Situation) (sound : IsSound s) where
 
 frozen_list : (P : Landing → Type 0) (all : List Active) → All P (filter_map (λ a. option_map (landing a) a.frozen) all)
     → (i : ℕ) → i < length all → (u : ℕ) → (numbered all i).frozen ≡ Some u → P (landing (numbered all i) u)
-frozen_list P all h i lt u e = general.all_at P _ h (landing (numbered all i) u)
-    (general.frozen_in all (numbered all i) u (members.number_member all i lt) e)
+frozen_list P all h i lt u e = general.all_at P _ h _ (general.frozen_in all _ u (members.number_member all i lt) e)
 
 pub list_frozen : (P : Landing → Type 0) (all : List Active)
     → ((i : ℕ) → i < length all → (u : ℕ) → (numbered all i).frozen ≡ Some u → P (landing (numbered all i) u))
     → All P (filter_map (λ a. option_map (landing a) a.frozen) all)
-list_frozen P all h = general.all_from P _ (λ x m. let w =
-    members.frozen_member x all m in subst P (sym w.4) (h w.0 w.1 w.2 w.3))
+list_frozen P all h = general.all_from P _ (λ x m. let w = members.frozen_member x all m in rw w.4 (h w.0 w.1 w.2 w.3))
 
 pub active_are : (all : List Active) → all ≡ map (numbered all) (numbers_of all)
 active_are [] = refl
-active_are (a ∷ all) = ap (λ l. a ∷ l) (active_are all ∙ sym (map_numbers (numbered (a ∷ all)) 0 (length all)))
+active_are (a ∷ all) = ap (λ l. a ∷ l) (active_are all ∙ sym (map_numbers _ 0 _))
 
 module _ (s : Situation) (sound : IsSound s) where
   pub frozen_each : (P : Landing → Type 0) → All P (frozen_landings s) → (i : ℕ) → In i (numbered_situation s).frozen
       → P (landing (numbered s.active i) ((numbered_situation s).frozen_at i))
   frozen_each P h i m =
-      let w = in_filter (λ x. not (waits_at s.active x)) i (numbers_of s.active) m in
-      let b = in_numbers 0 (length s.active) i w.0 in
-      frozen_list P s.active h i (omega (arith, b.1)) ((numbered_situation s).frozen_at i)
-      (some_of (numbered s.active i).frozen w.1)
+      let w = in_filter _ i _ m in
+      frozen_list P _ h i (omega (arith, (in_numbers 0 (length s.active) i w.0).1)) _ (some_of _ w.1)
 
   pub waiting_each : (P : Active → Type 0) → All P (waiting s) → (i : ℕ) → In i (numbered_situation s).waiting
       → P (numbered s.active i)
-  waiting_each P h i m = all_at P (numbered s.active) (numbered_situation s).waiting
-      (subst (All P) (ap (filter is_waiting) (active_are s.active)
-      ∙ filter_map_is is_waiting (numbered s.active) (numbers_of s.active)) h) i m
+  waiting_each P h i m = all_at P _ _ (subst (All P) (ap (filter _) (active_are s.active)
+      ∙ filter_map_is _ _ (numbers_of s.active)) h) i m
 
   -- what the theory asks of a situation
   pub sound_numbered : numbers.SoundSituation (numbered_situation s)
@@ -297,4 +280,4 @@ module _ (s : Situation) (sound : IsSound s) where
       }
     where
       frozen_among : (i : ℕ) → In i (numbered_situation s).frozen → In i (numbers_of s.active)
-      frozen_among i m = (in_filter (λ x. not (waits_at s.active x)) i (numbers_of s.active) m).0
+      frozen_among i m = (in_filter _ i _ m).0

@@ -2,14 +2,13 @@
 use Rattle.std.proofs.Common.{◌≡◌, ◌≢◌, ℕ, ◌+◌, ◌<◌, ◌≤◌, inl, inr, List, [], ◌∷◌, get_or, map, filter, cond, Bool}
 use Rattle.std.proofs.Common.{true, false, nat_lt, count_by, arith, refl, sym, ap}
 use Rattle.std.specs.Prelude.{All, IsTrue, IsPermutation}
-use Rattle.std.specs.Ordering.{is_lt}
 use Rattle.std.proofs.lemmas.Bool.{cases_Bool, cases_lt, lt-ltb, le-ltb}
 use Rattle.std.proofs.lemmas.List.Sorted.{IsPermutation-refl, IsPermutation-cons, IsPermutation-trans}
 use Rattle.std.proofs.lemmas.List.Sorted.{IsPermutation-swap, IsPermutation-map, All-permutation, sum_by-IsPermutation}
 use Rattle.landing_rules.specs.declared.objective.Objective.{Objective}
 use Rattle.landing_rules.specs.declared.objective.Objective.TheVariants.{Makespan, Delay}
 use Rattle.landing_rules.specs.Flights.{Flight, Situation, Landing, horizon}
-use Rattle.landing_rules.specs.Rules.{last_second, is_open, waits, arrival_cmp, rank_among, place, greatest, delay}
+use Rattle.landing_rules.specs.Rules.{last_second, is_open, waits, rank_among, place, greatest}
 use Rattle.landing_rules.specs.Rules.{cost, ArePairSeparated, IsPairInPrecedence, IsShiftKept, IsFrozenKept}
 use Rattle.landing_rules.specs.Rules.{KeepsShift, KeepsRules}
 use Rattle.landing_rules.specs.Events.{insert_landing, in_landing_order}
@@ -25,7 +24,7 @@ Strict fs = Each (λ f g. f.second < g.second) fs
 
 pub strict_equal : (xs ys : List Landing) → Strict xs → Strict ys → ((z : Landing) → Member z xs → Member z ys)
     → ((z : Landing) → Member z ys → Member z xs) → xs ≡ ys
-strict_equal xs ys d e f g = one_list (λ f g. f.second < g.second) (λ f g a b. omega arith) xs ys d e f g
+strict_equal xs ys d e f g = one_list _ (λ f g a b. omega arith) xs ys d e f g
 
 -- ---- by landing order
 
@@ -34,70 +33,64 @@ pub strict_insert : (f : Landing) (fs : List Landing) → Strict fs → ((g : La
     → Strict (insert_landing f fs)
 strict_insert f [] e ne = (λ y m. absurd m, tt)
 strict_insert f (x ∷ fs) e ne = elim (cases_lt x.second f.second) [
-  | inl lt ↦ rw (lt-ltb x.second f.second lt) (
+  | inl lt ↦ rw (lt-ltb _ _ lt) (
     λ y m. elim (member_insert f y fs m) [ inl s ↦ rw s lt | inr k ↦ e.0 y k ],
-    strict_insert f fs e.1
-        (λ g m. ne g (inr m)),
+    strict_insert f fs e.1 (λ g m. ne g (inr m)),
   )
-  | inr le ↦ rw (le-ltb x.second f.second le) (
+  | inr le ↦ rw (le-ltb _ _ le) (
     let c =
-        ne x (inl refl) in λ y m. elim m [ inl s ↦ rw s (omega arith) | inr k ↦ (let b = e.0 y k in omega arith) ],
+        ne x (inl refl) in λ y m. elim m [ inl s ↦ rw s (omega arith) | inr k ↦ (omega (arith, e.0 y k)) ],
     e,
   )
 ]
 
 pub strict_order : (fs : List Landing) → Each (λ f g. f.second ≢ g.second) fs → Strict (in_landing_order fs)
 strict_order [] e = tt
-strict_order (f ∷ fs) e =
-    strict_insert f (in_landing_order fs) (strict_order fs e.1) (λ g m q. e.0 g (order_member g fs m) (sym q))
+strict_order (f ∷ fs) e = strict_insert f _ (strict_order fs e.1) (λ g m q. e.0 g (order_member g fs m) (sym q))
 
 -- ---- the rules and the objective do not hang on the order of landings
 
 pub filter_insert : (f : Landing) (fs : List Landing)
     → IsPermutation (filter waits (f ∷ fs)) (filter waits (insert_landing f fs))
 filter_insert f [] = IsPermutation-refl (filter waits (f ∷ []))
-filter_insert f (g ∷ fs) = go (nat_lt g.second f.second) (filter_insert f fs)
+filter_insert f (g ∷ fs) = go _ (filter_insert f fs)
   where
     by : (c d : Bool) → IsPermutation (cond c (f ∷ filter waits fs) (filter waits fs))
         (filter waits (insert_landing f fs))
         → IsPermutation (cond c (f ∷ cond d (g ∷ filter waits fs) (filter waits fs))
         (cond d (g ∷ filter waits fs) (filter waits fs)))
         (cond d (g ∷ filter waits (insert_landing f fs)) (filter waits (insert_landing f fs)))
-    by true true h = IsPermutation-trans (f ∷ g ∷ filter waits fs) (g ∷ f ∷ filter waits fs)
-        (g ∷ filter waits (insert_landing f fs)) (IsPermutation-swap (f ∷ g ∷ filter waits fs)
-        (g ∷ f ∷ filter waits fs) 0 1 (omega arith) (omega arith) refl)
-        (IsPermutation-cons g (f ∷ filter waits fs) (filter waits (insert_landing f fs)) h)
+    by true true h = IsPermutation-trans _ _ _ (IsPermutation-swap (f ∷ g ∷ filter _ fs)
+        (g ∷ f ∷ filter _ fs) 0 1 (omega arith) (omega arith) refl)
+        (IsPermutation-cons g (f ∷ filter _ fs) (filter _ (insert_landing f fs)) h)
     by true false h = h
-    by false true h = IsPermutation-cons g (filter waits fs) (filter waits (insert_landing f fs)) h
+    by false true h = IsPermutation-cons g (filter _ fs) (filter _ (insert_landing f fs)) h
     by false false h = h
 
     go : (b : Bool) → IsPermutation (filter waits (f ∷ fs)) (filter waits (insert_landing f fs))
         → IsPermutation (filter waits (f ∷ g ∷ fs)) (filter waits (cond b (g ∷ insert_landing f fs) (f ∷ g ∷ fs)))
-    go true h = by (waits f) (waits g) h
+    go true h = by _ _ h
     go false h = IsPermutation-refl (filter waits (f ∷ g ∷ fs))
 
 pub filter_order : (fs : List Landing) → IsPermutation (filter waits fs) (filter waits (in_landing_order fs))
 filter_order [] = IsPermutation-refl []
-filter_order (f ∷ fs) = IsPermutation-trans (filter waits (f ∷ fs)) (filter waits (f ∷ in_landing_order fs))
-    (filter waits (insert_landing f (in_landing_order fs)))
+filter_order (f ∷ fs) = IsPermutation-trans _ _ _
     (elim (cases_Bool (waits f)) [
       | inl e ↦ rw e (IsPermutation-cons f _ _ (filter_order fs))
-      | inr e ↦
-          rw e (filter_order fs)
-    ]) (filter_insert f (in_landing_order fs))
+      | inr e ↦ rw e (filter_order fs)
+    ]) (filter_insert f _)
 
 -- how many pass a test doesn't hang on the order
 pub count-moved : {X : Type 0} (p : X → Bool) (xs ys : List X) → IsPermutation xs ys → count_by p xs ≡ count_by p ys
-count-moved p xs ys h = sym (sum_by-IsPermutation (λ x. cond (p x) 1 0) xs ys h)
+count-moved p xs ys h = sym (sum_by-IsPermutation _ xs ys h)
 
 pub place-moved : (xs ys : List Landing) → IsPermutation xs ys → (f : Landing) → place xs f ≡ place ys f
-place-moved xs ys h f = ap (λ n. 1 + n) (count-moved (λ g. nat_lt g.second f.second) xs ys h)
+place-moved xs ys h f = ap (λ n. 1 + n) (count-moved _ xs ys h)
 
 pub rank-moved : (xs ys : List Landing) → IsPermutation xs ys → (f : Landing) → rank_among xs f ≡ rank_among ys f
 rank-moved xs ys h f =
     let flight : Landing → Flight = λ g. g.flight in
-    ap (λ n. 1 + n) (count-moved (λ g. is_lt (arrival_cmp g f.flight)) (map flight xs) (map flight ys)
-    (IsPermutation-map flight xs ys h))
+    ap (λ n. 1 + n) (count-moved _ _ _ (IsPermutation-map flight xs ys h))
 
 pub shift-moved : (k : ℕ) (xs ys : List Landing) → IsPermutation xs ys → KeepsShift k xs → KeepsShift k ys
 shift-moved k xs ys h a = All-permutation (IsShiftKept k ys) xs ys h (λ i d lt.
@@ -134,4 +127,4 @@ pub cost_order : (o : Objective) (fs : List Landing) → cost o (in_landing_orde
 cost_order Makespan [] = refl
 cost_order Makespan (f ∷ fs) = let a = greatest_insert f (in_landing_order fs) in let b =
     cost_order Makespan fs in omega arith
-cost_order Delay fs = sum_by-IsPermutation delay fs (in_landing_order fs) (order_permutes fs)
+cost_order Delay fs = sum_by-IsPermutation _ fs _ (order_permutes fs)

@@ -15,4 +15,4 @@ pub landings_are : (all : List Active) (t : Schedule) → length t ≡ length al
 landings_are [] t e = refl
 landings_are (a ∷ all) [] e = absurd (omega arith)
 landings_are (a ∷ all) (u ∷ t) e = ap (λ l. landing a u ∷ l) (landings_are all t (omega arith)
-    ∙ sym (map_numbers (landing_at (a ∷ all) (u ∷ t)) 0 (length all)))
+    ∙ sym (map_numbers _ 0 _))

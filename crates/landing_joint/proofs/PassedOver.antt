@@ -7,7 +7,7 @@ use Rattle.std.proofs.lemmas.Bool.{false≢true, le-ltb}
 use Rattle.std.proofs.lemmas.List.Kept.{AllPairs-filter}
 use Rattle.std.proofs.lemmas.Slice.Eq.{bytes_eq-Decides}
 use Rattle.std.proofs.lemmas.Option.{same_Some}
-use Rattle.landing_rules.specs.Flights.{Active, Callsign, Flight, Schedule, Situation, horizon, is_waiting, landings}
+use Rattle.landing_rules.specs.Flights.{Active, Callsign, Flight, Schedule, Situation, horizon, landings}
 use Rattle.landing_rules.specs.Flights.{waiting}
 use Rattle.landing_rules.specs.Rules.{arrival_cmp, IsFeasible}
 use Rattle.landing_rules.specs.Events.{Clock, named, situation_after}
@@ -32,25 +32,23 @@ use Rattle.landing_rules.specs.shared.Members.{in_map, map_in, found_in, none_fo
 
 pub found : (s : Situation) (c : Callsign) (f : Active) → waiting_flight s c ≡ Some f
     → Member f (waiting s) × (f.flight.callsign ≡ c)
-found s c f e = let r = found_in (named c) (waiting s) f e in (r.0, named_is c f r.1)
+found s c f e = let r = found_in _ _ f e in (r.0, named_is c f r.1)
 
 pub names_waiting : (s : Situation) → IsSound s → Differ (callsigns (waiting s))
-names_waiting s sound = differ_of (waiting s)
-    (AllPairs-filter (λ (a b : Active). a.flight.callsign ≢ b.flight.callsign) is_waiting s.active sound.callsigns)
+names_waiting s sound = differ_of _
+    (AllPairs-filter (λ (a b : Active). a.flight.callsign ≢ b.flight.callsign) _ _ sound.callsigns)
 
 pub is_found : (s : Situation) → IsSound s → (c : Callsign) (f : Active) → Member f (waiting s)
     → f.flight.callsign ≡ c → waiting_flight s c ≡ Some f
-is_found s sound c f m e = elim (cases_option (waiting_flight s c)) [
-  | inl q ↦ absurd (false≢true (sym (none_found (named c) (waiting s) f q m)
-      ∙ (bytes_eq-Decides f.flight.callsign c).1 e))
+is_found s sound c f m e = elim (cases_option _) [
+  | inl q ↦ absurd (false≢true (sym (none_found (named c) _ f q m) ∙ (bytes_eq-Decides _ c).1 e))
   | inr w ↦ (let r = found s c w.0 w.1 in w.1
-      ∙ ap Some (one_of_name (waiting s) w.0 f (names_waiting s sound) r.0 m (r.1 ∙ sym e)))
+      ∙ ap Some (one_of_name _ w.0 f (names_waiting s sound) r.0 m (r.1 ∙ sym e)))
 ]
 
 pub some_flight : (s : Situation) (c : Callsign) → waits_in s c ≡ true → (f : Active) × (waiting_flight s c ≡ Some f)
-some_flight s c e = elim (cases_option (waiting_flight s c)) [
-  | inl q ↦ absurd
-      (false≢true (sym (ap is_some q) ∙ e))
+some_flight s c e = elim (cases_option _) [
+  | inl q ↦ absurd (false≢true (sym (ap is_some q) ∙ e))
   | inr w ↦ w
 ]
 
@@ -78,17 +76,17 @@ module _ (s : Situation) (sound : IsSound s) (t : Schedule) (ok : IsFeasible s t
   shifted = (feasible_numbered s sound t ok.0 ok).shifted
 
   stays : (i : ℕ) → In i stay → In i (numbers_of s.active) × (waits_at s.active i ≡ true) × (h ≤ second_of t i)
-  stays i m = late_after s sound t ok now forth i (subst (In i) (sym (waiting_after s sound t ok now forth)) m)
+  stays i m = late_after s sound t ok now forth i (rw (waiting_after s sound t ok now forth) m)
 
   waited : (i : ℕ) → In i stay → In i ns.waiting
-  waited i m = let w = stays i m in filter_in (waits_at s.active) i (numbers_of s.active) w.0 w.1
+  waited i m = let w = stays i m in filter_in _ i _ w.0 w.1
 
   -- whoever stays counts those that overtook it
   counted_after : (i : ℕ) → In i stay → (numbered changed.active i).passed ≡ min s.aerodrome.k
       ((numbered s.active i).passed + over i)
   counted_after i m =
       let w = stays i m in
-      (at_after s sound t ok now forth i w.0).counted carry w.1 (le-ltb (second_of t i) h w.2)
+      (at_after s sound t ok now forth i w.0).counted carry w.1 (le-ltb _ h w.2)
       ∙ ap (λ n. min s.aerodrome.k ((numbered s.active i).passed + n)) (passing_is s sound t ok now forth i w.0)
 
   -- by number, where each that does not stand behind i was passed g times
@@ -96,11 +94,9 @@ module _ (s : Situation) (sound : IsSound s) (t : Schedule) (ok : IsFeasible s t
       → g ≤ (numbered s.active x).passed) where
     few_numbers : g + over i ≤ s.aerodrome.k
     few_numbers =
-        let r = bound_overtook (comes_before s.active) (first_come s.active)
-        (second_of t) ns.waiting s.aerodrome.k h ns.back shifted i m in
+        let r = bound_overtook _ (first_come s.active) _ _ _ h _ shifted i m in
         let p = passed_low s sound t ok.0 r.0 (stays r.0 r.1).0 in
         let l = least r.0 (waited r.0 r.1) r.2 in
-        let b = r.3 in
         omega arith
 
     counted_numbers : (x : ℕ) → In x stay → comes_before s.active i x ≡ false
@@ -108,20 +104,17 @@ module _ (s : Situation) (sound : IsSound s) (t : Schedule) (ok : IsFeasible s t
     counted_numbers x n ahead =
         let few = few_numbers in
         let l = least x (waited x n) ahead in
-        let o = fewer_overtook (comes_before s.active) (first_come s.active)
-        (second_of t) ns.waiting s.aerodrome.k h ns.back shifted i x ahead in
+        let o = fewer_overtook _ (first_come s.active) _ _ _ h _ shifted i x ahead in
         let e = counted_after x n in
         omega arith
 
   at_number : (y : Active) → Member y (waiting changed) → (i : ℕ) × In i stay × (y ≡ numbered changed.active i)
   at_number y m =
-      let r = in_map (numbered changed.active) (numbered_situation changed).waiting y
-      (subst (Member y) (waiting_changed s sound t ok now forth) m) in
+      let r = in_map _ _ y (rw (waiting_changed s sound t ok now forth) at m) in
       (r.0, subst (In r.0) (waiting_after s sound t ok now forth) r.1, r.2)
 
   was_waiting : (i : ℕ) → In i ns.waiting → Member (numbered s.active i) (waiting s)
-  was_waiting i m = subst (Member (numbered s.active i)) (sym (waiting_before s sound t ok now forth))
-      (map_in (numbered s.active) ns.waiting i m)
+  was_waiting i m = rw (waiting_before s sound t ok now forth) (map_in _ _ i m)
 
   flight_at : (y : Active) (i : ℕ) → In i stay → y ≡ numbered changed.active i → y.flight ≡ (numbered s.active i).flight
   flight_at y i m e = ap (λ (a : Active). a.flight) e ∙ same_flight s sound t ok now forth i (stays i m).0
@@ -129,10 +122,9 @@ module _ (s : Situation) (sound : IsSound s) (t : Schedule) (ok : IsFeasible s t
   -- no two of those that wait land at one second
   seconds_differ : (i j : ℕ) → In i ns.waiting → In j ns.waiting → i ≢ j → second_of t i ≢ second_of t j
   seconds_differ i j m n ne e =
-      let a = all_among s sound i (in_filter (waits_at s.active) i (numbers_of s.active) m).0 in
-      let b = all_among s sound j (in_filter (waits_at s.active) j (numbers_of s.active) n).0 in
-      let gap = (feasible_numbered s sound t ok.0 ok).separated i j a b ne (omega arith) in
-      let least = (sound.table.entries (numbered s.active i).flight.category (numbered s.active j).flight.category).0 in
+      let b = all_among s sound j (in_filter _ j _ n).0 in
+      let gap = (feasible_numbered s sound t ok.0 ok).separated i j (all_among s sound i (in_filter _ i _ m).0) b ne
+      (omega arith) in
       omega arith
 
   -- f is one that stays, and its number counts the same
@@ -170,22 +162,20 @@ module _ (s : Situation) (sound : IsSound s) (t : Schedule) (ok : IsFeasible s t
       behind_are : (x : ℕ) → In x ns.waiting
           → comes_before s.active i x ≡ is_lt (arrival_cmp f.flight (numbered s.active x).flight)
       behind_are x m =
-          comes_is s sound i x (stays i n.stays).0 (in_filter (waits_at s.active) x (numbers_of s.active) m).0
+          comes_is s sound i x (stays i n.stays).0 (in_filter _ x _ m).0
           ∙ ap (λ (a : Active). is_lt (arrival_cmp a.flight (numbered s.active x).flight)) (sym n.was)
 
       least_numbers : (x : ℕ) → In x ns.waiting → comes_before s.active i x ≡ false → g ≤ (numbered s.active x).passed
       least_numbers x m ahead = all_at (λ (x : Active). is_lt (arrival_cmp f.flight x.flight) ≡ false
-          → g ≤ x.passed) (waiting s) (least f here) (numbered s.active x) (was_waiting x m)
-          (sym (behind_are x m) ∙ ahead)
+          → g ≤ x.passed) _ (least f here) _ (was_waiting x m) (sym (behind_are x m) ∙ ahead)
 
       counted_each : (y : Active) → Member y (waiting changed)
           → is_lt (arrival_cmp (numbered changed.active i).flight y.flight) ≡ false → g + passing ≤ y.passed
       counted_each y m ahead =
           let x = at_number y m in
-          let a = flight_at (numbered changed.active i) i n.stays refl ∙ ap (λ (b : Active). b.flight) (sym n.was) in
-          let b = flight_at y x.0 x.1 x.2 in
-          let not_behind = behind_are x.0 (waited x.0 x.1) ∙ ap₂ (λ p q. is_lt (arrival_cmp p q)) (sym a) (sym b)
-          ∙ ahead in
+          let a = flight_at _ i n.stays refl ∙ ap (λ (b : Active). b.flight) (sym n.was) in
+          let not_behind = behind_are x.0 (waited x.0 x.1) ∙ ap₂ (λ p q. is_lt (arrival_cmp p q)) (sym a)
+          (sym (flight_at y x.0 x.1 x.2)) ∙ ahead in
           let few = counted_numbers g i n.stays least_numbers x.0 x.1 not_behind in
           let p = passing_are i n in
           let e = ap (λ (z : Active). z.passed) x.2 in
@@ -195,9 +185,7 @@ module _ (s : Situation) (sound : IsSound s) (t : Schedule) (ok : IsFeasible s t
       counts = record {
         few = (let a = few_numbers g i n.stays least_numbers in let p = passing_are i n in omega arith);
         counted = λ b e. all_from (λ (y : Active). is_lt (arrival_cmp b.flight y.flight) ≡ false
-            → g + passing ≤ y.passed) (waiting changed) (λ y m ahead.
-            let same = same_Some b (numbered changed.active i) (sym e ∙ n.is) in
-            counted_each y m (ap (λ (a : Active). is_lt (arrival_cmp a.flight y.flight)) (sym same) ∙ ahead));
+            → g + passing ≤ y.passed) (waiting changed) (λ y m ahead. counted_each y m (cc));
       }
 
     pub clock_counts_at : (g : ℕ) → ArePassedAtLeast g s c → ClockCounts s t now c f g
@@ -210,21 +198,19 @@ module _ (s : Situation) (sound : IsSound s) (t : Schedule) (ok : IsFeasible s t
         let n = named_number in
         let i = n.0 in
         let w = stays i n.1.stays in
-        let few = few_overtook_itself (comes_before s.active) (first_come s.active)
-        (second_of t) ns.waiting s.aerodrome.k ns.back shifted (λ x m. omega arith) seconds_differ h i
-        (waited i n.1.stays) w.2 in
+        let few = few_overtook_itself _ (first_come s.active)
+        _ _ _ _ shifted (λ x m. omega arith) seconds_differ h i (waited i n.1.stays) w.2 in
         let p = passed_low s sound t ok.0 i w.0 in
         let a = counted_after i n.1.stays in
-        let same = ap (λ (z : Active). z.passed) (same_Some b (numbered changed.active i) (sym e ∙ n.1.is)) in
+        let same = ap (λ (z : Active). z.passed) (same_Some b _ (sym e ∙ n.1.is)) in
         let was = ap (λ (z : Active). z.passed) n.1.was in
         let over_is = passing_are i n.1 in
         omega arith
 
 pub clock_counts : ClockCountsLaw
 clock_counts s t now c f g sound carry ok e here later least =
-    clock_counts_at s sound t ok now (forth_of s.clock now s.aerodrome.freeze e) carry c f here later g least
+    clock_counts_at s sound t ok now (forth_of _ now _ e) carry c f here later g least
 
 pub clock_counts_exactly : ClockCountsExactlyLaw
 clock_counts_exactly s t now c f g sound carry low ok e here later =
-    counts_exactly s sound t ok now (forth_of s.clock now s.aerodrome.freeze e) carry c f here
-    (ap is_some later) low g later
+    counts_exactly s sound t ok now (forth_of _ now _ e) carry c f here (ap is_some later) low g later

@@ -1,6 +1,6 @@
 -- The problem of a situation is a problem of the theory, and its feasible lists are the feasible maps.
 use Rattle.std.proofs.Common.{◌≡◌, ℕ, zero, suc, ◌+◌, ◌-◌, ◌*◌, ◌<◌, ◌≤◌, ◌⊎◌, inl, inr, List, [], ◌∷◌, length, get_or}
-use Rattle.std.proofs.Common.{map, filter, cond, Bool, false, not, ◌&&◌, nat_le, zero-le, le_antisymm, add-one, arith}
+use Rattle.std.proofs.Common.{map, filter, cond, Bool, not, ◌&&◌, nat_le, zero-le, le_antisymm, add-one, arith}
 use Rattle.std.proofs.Common.{refl, sym, ap, ap₂, subst, ◌∙◌}
 use Rattle.std.specs.Prelude.{filter_map, option_map, unwrap_or, is_none, sum_by, Option, Some, None, IsPermutation}
 use Rattle.std.specs.List.{AllZip, list_any, cons_option, zip}
@@ -10,7 +10,7 @@ use Rattle.wake_table.specs.declared.category.Category.{Category}
 use Rattle.wake_table.specs.Table.{separation}
 use Rattle.landing_rules.specs.declared.objective.Objective.{Objective}
 use Rattle.landing_rules.specs.declared.objective.Objective.TheVariants.{Makespan, Delay}
-use Rattle.landing_rules.specs.Flights.{Landing, landing, Active, Situation, Schedule, is_waiting, waiting}
+use Rattle.landing_rules.specs.Flights.{landing, Active, Situation, Schedule, waiting}
 use Rattle.landing_rules.specs.Rules.{is_within, is_open, last_second, greatest, delay, cost, objective, IsFeasible}
 use Rattle.landing_rules.specs.Rules.{IsBest}
 use Rattle.landing_rules.specs.Events.{frozen_landings}
@@ -50,18 +50,16 @@ sum_parts g p [] = omega arith
 sum_parts g p (x ∷ xs) = let h = sum_parts g p xs in
     elim (cases_Bool (p x)) [
       | inl e ↦ rw e (omega (arith, sum_by-cons g))
-      | inr e ↦
-          rw e (omega (arith, sum_by-cons g))
+      | inr e ↦ rw e (omega (arith, sum_by-cons g))
     ]
 
 filter_numbers : (p : ℕ → Bool) (b n : ℕ) → filter p (numbers_from (suc b) n) ≡ map suc
     (filter (λ i. p (suc i)) (numbers_from b n))
 filter_numbers p b zero = refl
 filter_numbers p b (suc n) = let h =
-    filter_numbers p (suc b) n in elim (cases_Bool (p (suc b))) [
+    filter_numbers p _ n in elim (cases_Bool (p (suc b))) [
       | inl e ↦ rw e (ap (λ l. suc b ∷ l) h)
-      | inr e ↦
-          rw e h
+      | inr e ↦ rw e h
     ]
 
 -- the frozen landings are those of the frozen numbers
@@ -71,11 +69,8 @@ frozen_are : (all : List Active) → filter_map (λ a. option_map (landing a) a.
 frozen_are [] = refl
 frozen_are (a ∷ all) =
     let L = λ (i : ℕ). landing (numbered (a ∷ all) i) (unwrap_or (numbered (a ∷ all) i).frozen 0) in
-    let rest : filter_map (λ b. option_map (landing b) b.frozen) all ≡ map L
-    (filter (λ i. not (waits_at (a ∷ all) i)) (numbers_from 1 (length all))) =
-    frozen_are all ∙ sym (ap (map L) (filter_numbers (λ i. not (waits_at (a ∷ all) i)) 0 (length all))
-    ∙ map_map L suc (filter (λ i. not (waits_at all i)) (numbers_of all))) in
-    go a.frozen refl rest
+    let rest = frozen_are all ∙ sym (ap (map L) (filter_numbers _ 0 (length all)) ∙ map_map L suc _) in
+    go _ refl rest
   where
     go : (o : Option ℕ) → a.frozen ≡ o → filter_map (λ b. option_map (landing b) b.frozen) all ≡ map
         (λ i. landing (numbered (a ∷ all) i) (unwrap_or (numbered (a ∷ all) i).frozen 0))
@@ -85,7 +80,7 @@ frozen_are (a ∷ all) =
         (cond (not (is_none o)) (0 ∷ filter (λ i. not (waits_at (a ∷ all) i)) (numbers_from 1 (length all)))
         (filter (λ i. not (waits_at (a ∷ all) i)) (numbers_from 1 (length all))))
     go None q e = e
-    go (Some u) q e = ap₂ (λ (x : Landing) (l : List Landing). x ∷ l) (ap (λ o. landing a (unwrap_or o 0)) (sym q)) e
+    go (Some u) q e = cc
 
 module _ (s : Situation) (sound : IsSound s) (p : lists'.Problem) (of : lists'.IsProblemOf s p) where
   abbrev ns : numbers.NumberedSituation
@@ -101,45 +96,39 @@ module _ (s : Situation) (sound : IsSound s) (p : lists'.Problem) (of : lists'.I
   fl r = of_rank no_waiting p.flights r
 
   ranked_is : lists'.by_rank (waiting s) ≡ map (numbered s.active) R
-  ranked_is = ap lists'.by_rank (ap (filter is_waiting) (active_are s.active)
-      ∙ filter_map_is is_waiting (numbered s.active) (numbers_of s.active)) ∙ sym (map_sorted s.active ns.waiting)
+  ranked_is = ap lists'.by_rank (ap (filter _) (active_are s.active)
+      ∙ filter_map_is _ _ (numbers_of s.active)) ∙ sym (map_sorted _ ns.waiting)
 
   zipped : AllZip (lists'.IsWaitingOf s.closures) (map (numbered s.active) R) p.flights
-  zipped = subst (λ l. AllZip (lists'.IsWaitingOf s.closures) l p.flights) ranked_is of.flights
+  zipped = rw ranked_is at of.flights
 
   long_is : length R ≡ length p.flights
-  long_is = sym (length-map R (numbered s.active)) ∙ zip_long (lists'.IsWaitingOf s.closures)
-      (map (numbered s.active) R) p.flights zipped
+  long_is = sym (length-map R _) ∙ zip_long _ _ _ zipped
 
   waiting_of : (r : ℕ) → IsRank (length p.flights) r → lists'.IsWaitingOf s.closures (numbered s.active (at r)) (fl r)
-  waiting_of zero q = absurd (let a = q.0 in omega arith)
+  waiting_of zero q = absurd (omega (arith, q.0))
   waiting_of (suc i) q =
       let l = long_is in
-      let b = q.1 in
       let lt : i < length R = omega arith in
       let m = length-map R (numbered s.active) in
-      subst (λ a. lists'.IsWaitingOf s.closures a (fl (suc i)))
-      (get_or-map (numbered s.active) R i (length s.active) nobody lt)
-      (zip_at (lists'.IsWaitingOf s.closures) (map (numbered s.active) R) p.flights zipped i nobody no_waiting
-      (omega arith))
+      subst (λ a. lists'.IsWaitingOf s.closures a (fl (suc i))) (get_or-map _ R i _ _ lt)
+      (zip_at _ _ _ zipped i nobody _ (omega arith))
 
   rank_cases : (r : ℕ) → IsRank (length p.flights) r ⊎ ((numbered s.active (at r) ≡ nobody) × (fl r ≡ no_waiting))
-  rank_cases zero = inr (get_past s.active (length s.active) nobody (omega arith), refl)
+  rank_cases zero = inr (get_past _ (length s.active) _ (omega arith), refl)
   rank_cases (suc i) = elim (cases_lt i (length p.flights)) [
     | inl lt ↦ inl (omega arith, omega arith)
     | inr le ↦ (let l = long_is in inr (
-      ap (numbered s.active) (get_past R i (length s.active) (omega arith))
-          ∙ get_past s.active (length s.active) nobody (omega arith),
-      get_past p.flights i no_waiting le,
+      ap (numbered s.active) (get_past R i _ (omega arith)) ∙ get_past _ (length s.active) nobody (omega arith),
+      get_past _ i _ le,
     ))
   ]
 
   in_waiting : (r : ℕ) → IsRank (length p.flights) r → In (at r) ns.waiting
-  in_waiting r q = let l = long_is in let b =
-      q.1 in sorted_in s.active (at r) ns.waiting (at_in (length s.active) R r q.0 (omega arith))
+  in_waiting r q = let l = long_is in sorted_in s.active _ _ (at_in _ R r q.0 (omega arith))
 
   pub among : (r : ℕ) → IsRank (length p.flights) r → In (at r) (numbers_of s.active)
-  among r q = (in_filter (waits_at s.active) (at r) (numbers_of s.active) (in_waiting r q)).0
+  among r q = (in_filter _ _ _ (in_waiting r q)).0
 
   category_is : (r : ℕ) → (fl r).category ≡ (numbered s.active (at r)).flight.category
   category_is r = elim (rank_cases r) [
@@ -150,39 +139,32 @@ module _ (s : Situation) (sound : IsSound s) (p : lists'.Problem) (of : lists'.I
   passed_is : (r : ℕ) → (fl r).passed ≡ (numbered s.active (at r)).passed
   passed_is r = elim (rank_cases r) [
     | inl q ↦ (waiting_of r q).passed
-    | inr e ↦ ap (λ (w : lists'.Waiting). w.passed) e.1 ∙ sym (ap (λ (a : Active). a.passed) e.0)
+    | inr e ↦ ap (λ (w : lists'.Waiting). w.passed) e.1 ∙ sym (cc)
   ]
 
   open_is : (r u : ℕ) → list_any (is_within u) (fl r).open_spans ≡ (nat_le u last_second
       && is_open (numbered s.active (at r)).flight.windows s.closures u)
   open_is r u = elim (rank_cases r) [
     | inl q ↦
-        (let b = in_numbers 0 (length s.active) (at r) (among r q) in
-        let good = (sound.flights (at r) nobody (omega (arith, b.1))).windows.spans in
+        (let b = in_numbers 0 _ _ (among r q) in
         let o = is_open (numbered s.active (at r)).flight.windows s.closures u in
-        (waiting_of r q).open_spans.same u ∙ both_ways o (nat_le u last_second && o)
-        (λ e. and_from (nat_le u last_second) o
-        (open_low (numbered s.active (at r)).flight.windows s.closures u good e) e)
+        (waiting_of r q).open_spans.same u ∙ both_ways o _
+        (λ e. and_from _ o (open_low _ _ u ((sound.flights (at r) nobody (omega (arith, b.1))).windows.spans) e) e)
         (λ e. (and_parts (nat_le u last_second) o e).1))
     | inr e ↦ ap (λ (w : lists'.Waiting). list_any (is_within u) w.open_spans) e.1
         ∙ sym (ap (λ (a : Active). nat_le u last_second && is_open a.flight.windows s.closures u) e.0
-        ∙ and_right (nat_le u last_second) false refl)
+        ∙ and_right _ _ refl)
   ]
 
   before_is : (q r : ℕ) → IsRank (length p.flights) q → IsRank (length p.flights) r
       → must_precede p.pairs q r ≡ ns.lists (at q) (at r)
-  before_is zero r iq ir = absurd (let a = iq.0 in omega arith)
-  before_is (suc i) zero iq ir = absurd (let a = ir.0 in omega arith)
+  before_is zero r iq ir = absurd (omega (arith, iq.0))
+  before_is (suc i) zero iq ir = absurd (omega (arith, ir.0))
   before_is (suc i) (suc j) iq ir =
       let l = long_is in
-      let a = iq.1 in
-      let b = ir.1 in
-      let listed = subst (λ l. lists'.ArePredecessorsOf l p.pairs) ranked_is of.predecessors in
-      let c = listed i j (numbered s.active (at (suc i))) (numbered s.active (at (suc j)))
-      (slice_map s.active R i (length s.active) (omega arith))
-      (slice_map s.active R j (length s.active) (omega arith)) in
-      subst (λ x. must_precede p.pairs x (suc j) ≡ ns.lists (at (suc i)) (at (suc j))) (add-one i)
-      (subst (λ y. must_precede p.pairs (i + 1) y ≡ ns.lists (at (suc i)) (at (suc j))) (add-one j) c)
+      let c = (rw ranked_is at of.predecessors) i j (numbered s.active (at (suc i))) (numbered s.active (at (suc j)))
+      (slice_map _ R i _ (omega arith)) (slice_map _ R j _ (omega arith)) in
+      rw (add-one i) at (rw (add-one j) at c)
 
   apart_is : (q r : ℕ) → separation p.table (fl q).category (fl r).category ≡ ns.apart (at q) (at r)
   apart_is q r = ap (λ t. separation t (fl q).category (fl r).category) of.table
@@ -198,8 +180,7 @@ module _ (s : Situation) (sound : IsSound s) (p : lists'.Problem) (of : lists'.I
       w.1,
       ap₂ (λ t o. after_last t o (fl r).category) of.table (of.last ∙ w.2)
           ∙ ap (λ (c : Category). ns.frozen_at w.0 + separation s.aerodrome.table
-          (numbered s.active w.0).flight.category c)
-          (category_is r),
+          (numbered s.active w.0).flight.category c) (category_is r),
       w.3,
     )
   ]
@@ -209,10 +190,7 @@ module _ (s : Situation) (sound : IsSound s) (p : lists'.Problem) (of : lists'.I
       → ((f : ℕ) → In f ns.frozen → ns.frozen_at f ≤ ns.frozen_at i) → x ≡ i
   one_latest x i mx mi lx li = elim (cases_eq x i) [
     | inl e ↦ e
-    | inr ne ↦ absurd
-        (let a = (sound_numbered s sound).frozen_apart x i mx mi ne (li x mx) in
-        let b = lx i mi in
-        let c = (sound.table.entries (numbered s.active x).flight.category (numbered s.active i).flight.category).0 in
+    | inr ne ↦ absurd (let a = (sound_numbered s sound).frozen_apart x i mx mi ne (li x mx) in
         omega arith)
   ]
 
@@ -224,23 +202,22 @@ module _ (s : Situation) (sound : IsSound s) (p : lists'.Problem) (of : lists'.I
     apart_is = apart_is;
     before_is = before_is;
     start_low = λ r t le. (
-      (let a = of.horizon in omega arith),
+      (omega (arith, of.horizon)),
       λ x i late. elim (start_of r) [
         | inl e ↦ absurd (e.1 x i)
-        | inr w ↦ subst (λ z. ns.frozen_at z + ns.apart z (at r) ≤ t) (sym (one_latest x w.0 i w.1 late w.3)) (let a =
-            w.2 in omega arith)
+        | inr w ↦ subst (λ z. ns.frozen_at z + ns.apart z (at r) ≤ t) (sym (one_latest x w.0 i w.1 late w.3))
+            (omega arith)
       ],
     );
     start_high = λ r t low late. elim (start_of r) [
-      | inl e ↦ (let a = of.horizon in let b = ap (λ o. after_last p.table o (fl r).category) e.0 in omega arith)
-      | inr w ↦ (let a = of.horizon in let b = w.2 in let c = late w.0 w.1 w.3 in omega arith)
+      | inl e ↦ (let b = ap (λ o. after_last p.table o (fl r).category) e.0 in omega arith)
+      | inr w ↦ (omega arith)
     ];
     at_in = in_waiting;
     at_all = λ f i. let w = in_at (length s.active) R f (in_sorted s.active f ns.waiting i) in let l =
-        long_is in (w.0, (w.1.0, let b = w.1.1 in omega arith), w.2);
+        long_is in (w.0, (omega arith), w.2);
     at_order = λ q r iq ir lt.
         let l = long_is in
-        let b = ir.1 in
         ordered_at (comes_before s.active) (length s.active) R
         (sorted_ordered s sound ns.waiting (λ j m. (in_filter (waits_at s.active) j (numbers_of s.active) m).0)
         (sound_numbered s sound).differ) q r iq.0 lt (omega arith);
@@ -251,10 +228,8 @@ module _ (s : Situation) (sound : IsSound s) (p : lists'.Problem) (of : lists'.I
 
   pub passed_low' : (r : ℕ) → IsRank (length p.flights) r → (fl r).passed ≤ p.k
   passed_low' r q =
-      let b = in_numbers 0 (length s.active) (at r) (among r q) in
-      let a = sound.passed (at r) nobody (omega (arith, b.1)) in
+      let b = in_numbers 0 _ _ (among r q) in
       let c = passed_is r in
-      let d = of.k in
       omega arith
 
   -- ---- joined with the frozen
@@ -264,32 +239,27 @@ module _ (s : Situation) (sound : IsSound s) (p : lists'.Problem) (of : lists'.I
       (of_rank 0 v (rank_in (comes_before s.active) ns.waiting i))
       (ns.frozen_at i)
   joined_at v i m =
-      let b = in_numbers 0 (length s.active) i m in
-      let F = λ (j : ℕ). cond (waits_at s.active j) (of_rank 0 v (rank_in (comes_before s.active) ns.waiting j))
-      (ns.frozen_at j) in
-      numbers_get F 0 0 (length s.active) i (omega (arith, b.1)) ∙ ap F (omega arith)
+      let b = in_numbers 0 _ i m in
+      let F = λ (j : ℕ). cond _ (of_rank 0 v (rank_in (comes_before s.active) ns.waiting j)) (ns.frozen_at j) in
+      numbers_get F 0 0 _ i (omega (arith, b.1)) ∙ ap F (omega arith)
 
   pub joined_frozen : (v : Schedule) (i : ℕ) → In i ns.frozen → second_of (joined s v) i ≡ ns.frozen_at i
   joined_frozen v i m =
-      let w = in_filter (λ x. not (waits_at s.active x)) i (numbers_of s.active) m in
-      joined_at v i w.0 ∙ rw (not-true (waits_at s.active i) w.1)
+      let w = in_filter _ i _ m in
+      joined_at v i w.0 ∙ rw (not-true _ w.1)
 
   pub joined_rank : (v : Schedule) (r : ℕ) → IsRank (length p.flights) r → second_of (joined s v) (at r) ≡ of_rank 0 v r
   joined_rank v r q =
-      let w = in_filter (waits_at s.active) (at r) (numbers_of s.active) (in_waiting r q) in
-      joined_at v (at r) w.0 ∙ ap (λ b. cond b (of_rank 0 v (rank_in (comes_before s.active) ns.waiting (at r)))
-      (ns.frozen_at (at r))) w.1
-      ∙ ap (of_rank 0 v) (rank_is ns (ranked p) (number_at s) (sound_numbered s sound) problem_of r q)
+      let w = in_filter _ _ _ (in_waiting r q) in
+      joined_at v _ w.0 ∙ ap (λ b. cond b (of_rank 0 v (rank_in (comes_before s.active) ns.waiting (at r)))
+      (ns.frozen_at (at r))) w.1 ∙ ap (of_rank 0 v) (rank_is ns _ _ (sound_numbered s sound) problem_of r q)
 
   -- a feasible list gives a feasible schedule
   pub list_gives_schedule : (v : Schedule) → lists'.IsFeasibleList p v → IsFeasible s (joined s v)
   list_gives_schedule v f =
       let T = second_of (joined s v) in
-      let g = feasible_agree (ranked p) (of_rank 0 v) (λ r. T (at r)) (λ r q. sym (joined_rank v r q))
-      (list_feasible p v f) in
-      let long = numbers_long (λ j. cond (waits_at s.active j)
-      (of_rank 0 v (rank_in (comes_before s.active) ns.waiting j)) (ns.frozen_at j)) 0 (length s.active) in
-      numbered_feasible s sound (joined s v) long (feasible_problem ns (ranked p) (number_at s)
+      let g = feasible_agree _ _ _ (λ r q. sym (joined_rank v r q)) (list_feasible p v f) in
+      numbered_feasible s sound _ (numbers_long _ 0 _) (feasible_problem ns _ _
       (sound_numbered s sound) problem_of T (joined_frozen v) g)
 
   -- ---- and back
@@ -299,22 +269,19 @@ module _ (s : Situation) (sound : IsSound s) (p : lists'.Problem) (of : lists'.I
 
   by_rank_at : (t : Schedule) (r : ℕ) → IsRank (length p.flights) r
       → of_rank 0 (seconds_by_rank t) r ≡ second_of t (at r)
-  by_rank_at t zero q = absurd (let a = q.0 in omega arith)
-  by_rank_at t (suc i) q = let b = q.1 in numbers_get (λ j. second_of t (at (suc j))) 0 0 (length p.flights) i
-      (omega arith) ∙ ap (λ j. second_of t (at (suc j))) (omega arith)
+  by_rank_at t zero q = omega arith
+  by_rank_at t (suc i) q = numbers_get _ 0 0 _ i (omega arith) ∙ ap (λ j. second_of t (at (suc j))) (omega arith)
 
   pub joined_long : (v : Schedule) → length (joined s v) ≡ length s.active
-  joined_long v = numbers_long
-      (λ j. cond (waits_at s.active j) (of_rank 0 v (rank_in (comes_before s.active) ns.waiting j)) (ns.frozen_at j)) 0
-      (length s.active)
+  joined_long v = numbers_long _ 0 _
 
   -- what holds of a number that waits, by its rank, and of a frozen one, holds of each
   pub each_number : (P : ℕ → Type 0) → ((r : ℕ) → IsRank (length p.flights) r → P (at r))
       → ((i : ℕ) → In i ns.frozen → P i) → (i : ℕ) → In i (numbers_of s.active) → P i
-  each_number P w f i m = elim (cases_Bool (waits_at s.active i)) [
-    | inl e ↦ (let x = problem_of.at_all i (filter_in (waits_at s.active) i (numbers_of s.active) m e) in
-        subst P x.2 (w x.0 x.1))
-    | inr e ↦ f i (filter_in (λ x. not (waits_at s.active x)) i (numbers_of s.active) m (ap not e))
+  each_number P w f i m = elim (cases_Bool _) [
+    | inl e ↦ (let x = problem_of.at_all i (filter_in _ i _ m e) in
+        rw x.2 at (w x.0 x.1))
+    | inr e ↦ f i (filter_in _ i _ m (ap not e))
   ]
 
   -- a feasible schedule is its frozen landings joined with a feasible list
@@ -323,16 +290,14 @@ module _ (s : Situation) (sound : IsSound s) (p : lists'.Problem) (of : lists'.I
   schedule_gives_list t f =
       let v = seconds_by_rank t in
       let n = feasible_numbered s sound t f.0 f in
-      let g = problem_feasible ns (ranked p) (number_at s) (sound_numbered s sound) problem_of (second_of t) n in
-      let long : length v ≡ length p.flights = numbers_long (λ i. second_of t (at (suc i))) 0 (length p.flights) in
-      let same : (i : ℕ) → In i (numbers_of s.active) → second_of t i ≡ second_of (joined s v) i =
-      each_number (λ i. second_of t i ≡ second_of (joined s v) i) (λ r q. sym (joined_rank v r q ∙ by_rank_at t r q))
+      let g = problem_feasible ns _ _ (sound_numbered s sound) problem_of _ n in
+      let long = numbers_long _ 0 _ in
+      let same =
+      each_number _ (λ r q. sym (joined_rank v r q ∙ by_rank_at t r q))
       (λ i m. n.kept i m ∙ sym (joined_frozen v i m)) in (
         v,
-        feasible_list p passed_low' v long (feasible_agree (ranked p) (λ r. second_of t (at r))
-            (of_rank 0 v) (λ r q. sym (by_rank_at t r q)) g),
-        same_number_lists t (joined s v) (f.0 ∙ sym (joined_long v)) (λ i lt. let e =
-            f.0 in same i (numbers_in 0 (length s.active) i zero-le (omega arith))),
+        feasible_list p passed_low' v long (feasible_agree _ _ _ (λ r q. sym (by_rank_at t r q)) g),
+        same_number_lists t _ (f.0 ∙ sym (joined_long v)) (λ i lt. same i (numbers_in 0 _ i zero-le (omega arith))),
       )
 
   -- ---- the objectives
@@ -345,7 +310,7 @@ module _ (s : Situation) (sound : IsSound s) (p : lists'.Problem) (of : lists'.I
   greatest_at : (xs : List ℕ) (i : ℕ) → i < length xs → get_or xs i 0 ≤ greatest xs
   greatest_at [] i lt = absurd (omega arith)
   greatest_at (x ∷ xs) zero lt = omega arith
-  greatest_at (x ∷ xs) (suc i) lt = let a = greatest_at xs i (omega arith) in omega arith
+  greatest_at (x ∷ xs) (suc i) lt = omega (arith, greatest_at xs i (omega arith))
 
   map_bound : (F : ℕ → ℕ) (xs : List ℕ) (m : ℕ) → ((i : ℕ) → In i xs → F i ≤ m) → greatest (map F xs) ≤ m
   map_bound F [] m h = zero-le
@@ -353,8 +318,8 @@ module _ (s : Situation) (sound : IsSound s) (p : lists'.Problem) (of : lists'.I
 
   map_at : (F : ℕ → ℕ) (xs : List ℕ) (i : ℕ) → In i xs → F i ≤ greatest (map F xs)
   map_at F [] i m = absurd m
-  map_at F (x ∷ xs) i (inl e) = let a = ap F e in omega arith
-  map_at F (x ∷ xs) i (inr k) = let a = map_at F xs i k in omega arith
+  map_at F (x ∷ xs) i (inl e) = omega (arith, ap F e)
+  map_at F (x ∷ xs) i (inr k) = omega (arith, map_at F xs i k)
 
   module _ (v : Schedule) (f : lists'.IsFeasibleList p v) where
     T : ℕ → ℕ
@@ -363,48 +328,36 @@ module _ (s : Situation) (sound : IsSound s) (p : lists'.Problem) (of : lists'.I
     makespan_some : (x : ℕ) (xs : List ℕ) → v ≡ x ∷ xs
         → greatest (map (second_of (joined s v)) (numbers_of s.active)) ≡ greatest v
     makespan_some x xs e =
-        let long = f.one_each in
         let some = ap length e in
-        let one : IsRank (length p.flights) 1 = (omega arith, omega arith) in
+        let one : IsRank (length p.flights) 1 = omega arith in
         let r1 = greatest_at v 0 (omega arith) in
-        let late : p.horizon ≤ of_rank 0 v 1 = each_at p v (λ r w a. p.horizon ≤ a) f.late 1 one in
-        let hz = of.horizon in
-        le_antisymm
-        (map_bound (second_of (joined s v)) (numbers_of s.active) (greatest v)
-        (each_number (λ i. second_of (joined s v) i ≤ greatest v)
+        let late = each_at p v (λ r w a. p.horizon ≤ a) f.late 1 one in
+        le_antisymm (map_bound _ _ _ (each_number _
         (λ r q. let a = joined_rank v r q in let b = at_greatest r q in omega arith)
         (λ i m. let a = joined_frozen v i m in let b = (sound_numbered s sound).frozen_before i m in omega arith)))
-        (greatest_bound v (greatest (map (second_of (joined s v)) (numbers_of s.active))) (λ i lt.
-        let q : IsRank (length p.flights) (suc i) = (omega arith, omega arith) in
-        let a = joined_rank v (suc i) q in
-        let b = map_at (second_of (joined s v)) (numbers_of s.active) (at (suc i)) (among (suc i) q) in
+        (greatest_bound v _ (λ i lt.
+        let q : IsRank (length p.flights) (suc i) = omega arith in
+        let a = joined_rank v _ q in
+        let b = map_at (second_of (joined s v)) _ _ (among _ q) in
         omega arith))
       where
         at_greatest : (r : ℕ) → IsRank (length p.flights) r → of_rank 0 v r ≤ greatest v
-        at_greatest zero q = absurd (let a = q.0 in omega arith)
-        at_greatest (suc i) q = let long = f.one_each in let b = q.1 in greatest_at v i (omega arith)
+        at_greatest zero q = omega arith
+        at_greatest (suc i) q = greatest_at v i (omega arith)
 
     makespan_none : v ≡ [] → greatest (map (second_of (joined s v)) (numbers_of s.active)) ≡ lists'.last_frozen p.last
     makespan_none e =
-        let long = f.one_each in
         let none = ap length e in
         elim (last_frozen_is s sound) [
-          | inl x ↦ le_antisymm
-              (map_bound (second_of (joined s v)) (numbers_of s.active) (lists'.last_frozen p.last)
-              (each_number (λ i. second_of (joined s v) i ≤ lists'.last_frozen p.last)
-              (λ r q. absurd (let a = q.0 in let b = q.1 in omega arith)) (λ i m. absurd (x.1 i m))))
-              (let a = ap lists'.last_frozen (of.last ∙ x.0) in omega arith)
+          | inl x ↦ le_antisymm (map_bound _ _ _ (each_number _
+              (λ r q. absurd (omega arith)) (λ i m. absurd (x.1 i m))))
+              (omega (arith, ap lists'.last_frozen (of.last ∙ x.0)))
           | inr x ↦
-              (let last : lists'.last_frozen p.last ≡ ns.frozen_at x.0 = ap lists'.last_frozen (of.last ∙ x.2) in
+              (let last = ap lists'.last_frozen (of.last ∙ x.2) in
               let j = joined_frozen v x.0 x.1 in
-              let m = map_at (second_of (joined s v)) (numbers_of s.active) x.0
-              (in_filter (λ y. not (waits_at s.active y)) x.0 (numbers_of s.active) x.1).0 in
-              le_antisymm
-              (map_bound (second_of (joined s v)) (numbers_of s.active) (lists'.last_frozen p.last)
-              (each_number (λ i. second_of (joined s v) i ≤ lists'.last_frozen p.last)
-              (λ r q. absurd (let a = q.0 in let b = q.1 in omega arith)) (λ i k. let a =
-              joined_frozen v i k in let b = x.3 i k in omega arith)))
-              (omega arith))
+              let m = map_at (second_of (joined s v)) (numbers_of s.active) x.0 (in_filter _ x.0 _ x.1).0 in
+              le_antisymm (map_bound _ _ _ (each_number _ (λ r q. absurd (omega arith)) (λ i k. let a =
+              joined_frozen v i k in omega arith))) (omega arith))
         ]
 
     -- ---- the delay
@@ -414,54 +367,44 @@ module _ (s : Situation) (sound : IsSound s) (p : lists'.Problem) (of : lists'.I
     delay_all =
         let D = λ (i : ℕ). delay (landing_at s.active (joined s v) i) in
         let N = numbers_of s.active in
-        let parts : sum_by D N ≡ sum_by D ns.frozen + sum_by D ns.waiting = sum_parts D (waits_at s.active) N in
-        let froze : sum_by D ns.frozen ≡ sum_by delay (frozen_landings s) =
-        sum_agree D (λ i. delay (landing (numbered s.active i) (ns.frozen_at i))) ns.frozen
-        (λ i m. ap (λ u. delay (landing (numbered s.active i) u)) (joined_frozen v i m))
-        ∙ sym (sum_map delay (λ i. landing (numbered s.active i) (ns.frozen_at i)) ns.frozen)
-        ∙ ap (sum_by delay) (sym (frozen_are s.active)) in
+        let parts = sum_parts D _ N in
+        let froze =
+        sum_agree D _ _ (λ i m. ap (λ u. delay (landing (numbered s.active i) u)) (joined_frozen v i m))
+        ∙ sym (sum_map _ _ ns.frozen) ∙ ap (sum_by delay) (sym (frozen_are s.active)) in
         let d : lists'.Waiting × ℕ = (no_waiting, 0) in
         let z = zip p.flights v in
         let n = length p.flights in
-        let long : length z ≡ n = let a = length-zip p.flights v in let b = f.one_each in omega arith in
-        let waits : sum_by D ns.waiting ≡ sum_by (λ r. D (at r)) (upto n) =
-        sum_by-IsPermutation D (map at (upto n)) ns.waiting problem_of.permuted ∙ sum_map D at (upto n) in
-        let listed : sum_by lists'.list_delay z ≡ sum_by (λ r. lists'.list_delay (of_rank d z r)) (upto n) =
-        sum_by-IsPermutation lists'.list_delay (map (of_rank d z) (upto (length z))) z (ranks_permute d z)
-        ∙ ap (λ k. sum_by lists'.list_delay (map (of_rank d z) (upto k))) long
-        ∙ sum_map lists'.list_delay (of_rank d z) (upto n) in
-        let same : sum_by (λ r. D (at r)) (upto n) ≡ sum_by (λ r. lists'.list_delay (of_rank d z r)) (upto n) =
-        sum_agree (λ r. D (at r)) (λ r. lists'.list_delay (of_rank d z r)) (upto n) (λ r i. one r (in_upto n r i)) in
-        sum_map delay (landing_at s.active (joined s v)) N ∙ parts ∙ ap₂ ◌+◌ froze (waits ∙ same ∙ sym listed)
+        let long : length z ≡ n = let a = length-zip p.flights v in omega arith in
+        let waits = sum_by-IsPermutation D _ _ problem_of.permuted ∙ sum_map D at (upto n) in
+        let listed =
+        sum_by-IsPermutation _ _ z (ranks_permute d z)
+        ∙ ap (λ k. sum_by lists'.list_delay (map (of_rank d z) (upto k))) long ∙ sum_map _ _ (upto n) in
+        let same = sum_agree _ _ _ (λ r i. one r (in_upto n r i)) in
+        sum_map _ _ N ∙ parts ∙ ap₂ ◌+◌ froze (cc)
       where
         one : (r : ℕ) → IsRank (length p.flights) r
             → delay (landing_at s.active (joined s v) (at r)) ≡ lists'.list_delay
             (of_rank (no_waiting, 0) (zip p.flights v) r)
-        one zero q = absurd (let a = q.0 in omega arith)
+        one zero q = omega arith
         one (suc i) q =
-            let w = waiting_of (suc i) q in
-            let b = q.1 in
-            let l = f.one_each in
+            let w = waiting_of _ q in
             ap₂ (λ (u : ℕ) (w : ℕ). (numbered s.active (at (suc i))).flight.weight * (u - w))
-            (joined_rank v (suc i) q) (sym w.eta)
-            ∙ ap (λ k. k * (of_rank 0 v (suc i) - (fl (suc i)).eta)) (sym w.weight)
-            ∙ ap lists'.list_delay (sym (get_or-zip p.flights v i (no_waiting, 0) (omega arith) (omega arith)))
+            (joined_rank v _ q) (sym w.eta) ∙ ap (λ k. k * (of_rank 0 v (suc i) - (fl (suc i)).eta)) (sym w.weight)
+            ∙ ap lists'.list_delay (sym (get_or-zip _ v i (no_waiting, 0) (omega arith) (omega arith)))
 
     pub same_objective : objective s (joined s v) ≡ lists'.list_objective p v
-    same_objective = ap (cost s.aerodrome.objective) (landings_are s.active (joined s v) (joined_long v))
-        ∙ go s.aerodrome.objective of.objective of.base
+    same_objective = ap (cost s.aerodrome.objective) (landings_are _ _ (joined_long v)) ∙ go _ of.objective of.base
       where
         go : (o : Objective) → p.objective ≡ o → p.base ≡ lists'.frozen_cost o (frozen_landings s)
             → cost o (map (landing_at s.active (joined s v)) (numbers_of s.active)) ≡ lists'.list_cost p.objective p v
         go Delay e b = delay_all ∙ ap (λ k. k + sum_by lists'.list_delay (zip p.flights v)) (sym b)
             ∙ ap (λ o. lists'.list_cost o p v) (sym e)
-        go Makespan e b = ap greatest (map_map (λ (g : Landing). g.second) (landing_at s.active (joined s v))
-            (numbers_of s.active)) ∙ by v refl ∙ ap (λ o. lists'.list_cost o p v) (sym e)
+        go Makespan e b = ap greatest (map_map _ _ _) ∙ by v refl ∙ ap (λ o. lists'.list_cost o p v) (sym e)
           where
             by : (xs : List ℕ) → v ≡ xs
                 → greatest (map (second_of (joined s v)) (numbers_of s.active)) ≡ lists'.list_cost Makespan p v
-            by [] q = makespan_none q ∙ sym (ap (lists'.list_cost Makespan p) q)
-            by (x ∷ xs) q = makespan_some x xs q ∙ ap greatest q ∙ sym (ap (lists'.list_cost Makespan p) q)
+            by [] q = makespan_none q ∙ sym (cc)
+            by (x ∷ xs) q = makespan_some x xs q ∙ ap greatest q ∙ sym (cc)
 
   -- the best lists give the best schedules
   pub best_list_schedule : (v : Schedule) → lists'.IsBestList p v → IsBest s (joined s v)
@@ -469,8 +412,7 @@ module _ (s : Situation) (sound : IsSound s) (p : lists'.Problem) (of : lists'.I
     feasible = list_gives_schedule v b.feasible;
     least = λ u f.
         let w = schedule_gives_list u f in
-        let least = b.least w.0 w.1 in
         let here = same_objective v b.feasible in
-        let there : objective s u ≡ lists'.list_objective p w.0 = ap (objective s) w.2 ∙ same_objective w.0 w.1 in
+        let there = ap (objective s) w.2 ∙ same_objective w.0 w.1 in
         omega arith;
   }

@@ -52,8 +52,7 @@ module _ (old new : Situation) (sound : IsSound old) (same : new.aerodrome ≡ o
     flights = all_from (λ (a : Active). IsGoodFlight a.flight) new.active (λ a m. (each a m).0);
     passed = all_from (λ (a : Active). a.passed ≤ new.aerodrome.k) new.active
         (λ a m. subst (λ (x : Aerodrome). a.passed ≤ x.k) (sym same) (each a m).1);
-    no_carry = λ e. all_from (λ (a : Active). a.passed ≡ 0) new.active
-        (λ a m. (each a m).2 (ap (λ (x : Aerodrome). x.carry) (sym same) ∙ e));
+    no_carry = λ e. all_from (λ (a : Active). a.passed ≡ 0) new.active (λ a m. (each a m).2 (cc));
     frozen_open = all_from (λ (f : Landing). IsTrue (is_open f.flight.windows new.closures f.second))
         (frozen_landings new) frozen.opened;
     frozen_separated = all_from (λ f. All (ArePairSeparated new.aerodrome.table f) (frozen_landings new))
@@ -71,11 +70,9 @@ module _ (old new : Situation) (sound : IsSound old) (same : new.aerodrome ≡ o
 pub each_of : (s : Situation) → IsSound s → (a : Active) → Member a s.active → IsGoodFlight a.flight
     × (a.passed ≤ s.aerodrome.k) × (s.aerodrome.carry ≡ false → a.passed ≡ 0)
 each_of s h a m = (
-  all_at (λ (a : Active). IsGoodFlight a.flight) s.active h.flights a m,
-  all_at
-      (λ (a : Active). a.passed ≤ s.aerodrome.k) s.active h.passed a m,
-  λ e. all_at (λ (a : Active). a.passed ≡ 0) s.active
-      (h.no_carry e) a m,
+  all_at (λ (a : Active). IsGoodFlight a.flight) _ h.flights a m,
+  all_at (λ (a : Active). a.passed ≤ s.aerodrome.k) _ h.passed a m,
+  λ e. all_at (λ (a : Active). a.passed ≡ 0) _ (h.no_carry e) a m,
 )
 
 -- where each frozen landing was one before, and each waiting flight has the callsign of one before
@@ -91,6 +88,6 @@ fewer_frozen old new sound same closed later was waited =
       separated = λ f g m n. subst (λ (x : Aerodrome). ArePairSeparated x.table f g) (sym same)
           (k.separated f g (was f m) (was g n));
       in_precedence = λ f g m n. k.in_precedence f g (was f m) (was g n);
-      before = λ f m. let b = k.before f (was f m) in omega arith;
+      before = λ f m. omega (arith, k.before f (was f m));
       alone = λ f a m n. let w = waited a n in ap (lists f.flight) w.2 ∙ k.alone f w.0 (was f m) w.1;
     }

@@ -2,19 +2,18 @@
 -- of a closure, which is closed or reopened, then all kinds together.
 use Rattle.std.proofs.Common.{◌≡◌, ℕ, ◌<◌, ◌≤◌, inl, inr, Bool, true, false, not, List, [], ◌∷◌, ◌++◌, length, filter}
 use Rattle.std.proofs.Common.{Option, Some, None, refl, sym, ap, subst, ◌∙◌, arith}
-use Rattle.std.specs.Prelude.{option_map, filter_map, find, is_some, nat_le, if◌then◌else◌}
+use Rattle.std.specs.Prelude.{option_map, is_some, nat_le, if◌then◌else◌}
 use Rattle.std.specs.List.{list_any}
 use Rattle.std.proofs.lemmas.Bool.{cases_Bool, cases_lt, le-leb, or_parts, and_parts, not-true}
 use Rattle.cps_base.specs.Limits.{most_closures}
-use Rattle.landing_rules.specs.Flights.{Aerodrome, Landing, Situation, Schedule, Span, landing, is_waiting, horizon}
-use Rattle.landing_rules.specs.Flights.{horizon_after}
+use Rattle.landing_rules.specs.Flights.{Aerodrome, Landing, Situation, Schedule, Span, is_waiting, horizon}
 use Rattle.landing_rules.specs.Rules.{is_open, is_within, is_shut, ArePairSeparated}
-use Rattle.landing_rules.specs.Events.{Close, Reopen, frozen_landings, in_landing_order, refusal, without_first}
+use Rattle.landing_rules.specs.Events.{Close, Reopen, frozen_landings, refusal, without_first}
 use Rattle.landing_rules.specs.Events.{same_span, situation_after, CoversFrozen, TooManyClosures, Estimate, Cancel, Add}
 use Rattle.landing_rules.specs.Events.{Clock, Answered, IsPlanShown}
 use Rattle.landing_rules.specs.Sound.{IsSound, IsSoundState, IsGoodEvent}
 use Rattle.std.proofs.lemmas.List.{length_push}
-use Rattle.landing_joint.specs.shared.Members.{Differ, callsigns, differ_of}
+use Rattle.landing_joint.specs.shared.Members.{differ_of}
 use Rattle.landing_joint.proofs.SoundAgain.{kept, sound_again, each_of}
 use Rattle.landing_rules.specs.shared.Counting.{Member}
 use Rattle.landing_joint.specs.shared.LandingsInOrder.{member_order}
@@ -31,8 +30,8 @@ fewer_shut : (span : Span) (cs : List Span) (t : ℕ) → list_any (is_shut t) c
     → list_any (is_shut t) (without_first (same_span span) cs) ≡ false
 fewer_shut span [] t e = e
 fewer_shut span (c ∷ cs) t e =
-    let p = or_parts (is_shut t c) (list_any (is_shut t) cs) e in
-    elim (cases_Bool (same_span span c)) [ inl q ↦ rw q p.1 | inr q ↦ rw (q, p.0) (fewer_shut span cs t p.1) ]
+    let p = or_parts _ (list_any (is_shut t) cs) e in
+    elim (cases_Bool (same_span span c)) [ inl q ↦ rw q p.1 | inr q ↦ rw (q, p.0) (fewer_shut _ cs t p.1) ]
 
 fewer_closed : (span : Span) (cs : List Span) → length (without_first (same_span span) cs) ≤ length cs
 fewer_closed span [] = omega arith
@@ -43,92 +42,79 @@ open_where : (windows cs ds : List Span) (t : ℕ) → (list_any (is_shut t) cs 
     → is_open windows cs t ≡ true → is_open windows ds t ≡ true
 open_where windows cs ds t h e =
     let p = and_parts (list_any (is_within t) windows) (not (list_any (is_shut t) cs)) e in
-    rw (p.0, h (not-true (list_any (is_shut t) cs) p.1))
+    rw (p.0, h (not-true _ p.1))
 
 other_closures : (s new : Situation) → IsSound s → new.aerodrome ≡ s.aerodrome → new.active ≡ s.active
     → new.clock ≡ s.clock → length new.closures ≤ most_closures →
     ((f : Landing) → Member f (frozen_landings s) → is_open f.flight.windows new.closures f.second ≡ true) → IsSound new
 other_closures s new h same actives clocks few opened =
     let k = kept s h in
-    let back : (f : Landing) → Member f (frozen_landings new) → Member f (frozen_landings s) =
-    λ f m. subst (λ l. Member f (filter_map (λ a. option_map (landing a) a.frozen) l)) actives m in
-    sound_again s new h same
-    (subst (λ l. Differ (callsigns l)) (sym actives) (differ_of s.active h.callsigns))
-    (let l = ap length actives in omega (arith, h.few_active)) (let l =
+    let back : (f : Landing) → Member f (frozen_landings new) → Member f (frozen_landings s) = λ f m. rw actives at m in
+    sound_again s new h same (rw actives (differ_of _ h.callsigns))
+    (omega (arith, ap length actives, h.few_active)) (let l =
     ap (λ l. length (filter is_waiting l)) actives in omega (arith, h.few_waiting)) few
-    (λ a m. each_of s h a (subst (Member a) actives m))
+    (λ a m. each_of s h a (rw actives at m))
     (record {
       opened = λ f m. opened f (back f m);
       separated = λ f g m n. subst (λ (x : Aerodrome). ArePairSeparated x.table f g) (sym same)
           (k.separated f g (back f m) (back g n));
       in_precedence = λ f g m n. k.in_precedence f g (back f m) (back g n);
-      before = λ f m. let b = k.before f (back f m) in let e : horizon new ≡ horizon s =
-          λ i. horizon_after (clocks i) ((same i).freeze) in omega arith;
+      before = λ f m. let b = k.before f (back f m) in let e : horizon new ≡ horizon s = search in omega arith;
       alone = λ f a m n. k.alone f a (back f m) (subst (λ l. Member a (filter is_waiting l)) actives n);
     })
 
 reopened : (s : Situation) (plan : Option Schedule) (span : Span) → IsSound s
     → IsSound (situation_after s plan (Reopen span))
 reopened s plan span h =
-    other_closures s (situation_after s plan (Reopen span)) h refl refl refl (let l =
-    fewer_closed span s.closures in omega (arith, h.few_closures))
-    (λ f m. open_where f.flight.windows s.closures (without_first (same_span span) s.closures) f.second
-    (fewer_shut span s.closures f.second) ((kept s h).opened f m))
+    other_closures s _ h refl refl refl (omega (arith, fewer_closed span s.closures, h.few_closures))
+    (λ f m. open_where _ _ _ f.second (fewer_shut _ _ f.second) ((kept s h).opened f m))
 
 -- ---- close
 
 any_push : (p : Span → Bool) (cs : List Span) (c : Span) → list_any p cs ≡ false → p c ≡ false
     → list_any p (cs ++ c ∷ []) ≡ false
-any_push p cs c e n = list_any-append p cs (c ∷ []) ∙ rw (e, n)
+any_push p cs c e n = list_any-append p cs _ ∙ rw (e, n)
 
 close_parts : (found : Option Landing) (n : ℕ)
     → (if is_some found then option_map (λ (g : Landing). CoversFrozen g.flight.callsign g.second) found
     else (if nat_le most_closures n then Some TooManyClosures else None)) ≡ None → (found ≡ None) × (n < most_closures)
-close_parts (Some g) n e = let w : Some (CoversFrozen g.flight.callsign g.second) ≡ None = e in absurd (cc)
+close_parts (Some g) n e = absurd (cc)
 close_parts None n e = elim (cases_lt n most_closures) [
   | inl lt ↦ (refl, lt)
-  | inr le ↦
-      (let w : Some TooManyClosures ≡ None = rw (le-leb most_closures n le) at e in absurd (cc))
+  | inr le ↦ (let w : Some TooManyClosures ≡ None = rw (le-leb _ n le) at e in absurd (cc))
 ]
 
 closed : (s : Situation) (plan : Option Schedule) (span : Span) → IsSound s → refusal s (Close span) ≡ None
     → IsSound (situation_after s plan (Close span))
 closed s plan span h ok =
-    let p = close_parts (find (λ g. is_shut g.second span) (in_landing_order (frozen_landings s)))
-    (length s.closures) ok in
-    other_closures s (situation_after s plan (Close span)) h refl refl refl (let l =
-    length_push s.closures span in omega (arith, p.1))
-    (λ f m. open_where f.flight.windows s.closures (s.closures ++ span ∷ []) f.second
-    (λ e. any_push (is_shut f.second) s.closures span e
-    (none_found (λ g. is_shut g.second span) (in_landing_order (frozen_landings s)) f p.0
-    (member_order f (frozen_landings s) m)))
-    ((kept s h).opened f m))
+    let p = close_parts _ _ ok in
+    other_closures s _ h refl refl refl (omega (arith, length_push s.closures span, p.1))
+    (λ f m. open_where _ _ _ f.second (λ e. any_push _ s.closures _ e (none_found (λ g. is_shut g.second span) _ f p.0
+    (member_order f _ m))) ((kept s h).opened f m))
 
 -- ---- all kinds
 
 pub event_keeps_sound : EventKeepsSoundLaw
-event_keeps_sound s plan (Estimate c eta windows) sound good feasible ok =
-    re_estimated s plan c eta windows sound good ok
+event_keeps_sound s plan (Estimate c eta windows) sound good feasible ok = re_estimated s plan c eta _ sound good ok
 event_keeps_sound s plan (Cancel c) sound good feasible ok = cancelled s plan c sound
 event_keeps_sound s plan (Add f) sound good feasible ok = added s plan f sound good ok
-event_keeps_sound s plan (Close span) sound good feasible ok = closed s plan span sound ok
-event_keeps_sound s plan (Reopen span) sound good feasible ok = reopened s plan span sound
+event_keeps_sound s plan (Close span) sound good feasible ok = closed s plan _ sound ok
+event_keeps_sound s plan (Reopen span) sound good feasible ok = reopened s plan _ sound
 event_keeps_sound s plan (Clock now) sound good feasible ok = clock_keeps_sound s plan now sound feasible ok
 
 pub step_keeps_sound : StepKeepsSoundLaw
 step_keeps_sound old new e None sound good step = record {
-  situation = subst IsSound (sym step.effect.changed)
-      (event_keeps_sound old.situation old.plan e sound.situation good
-      (λ t q. (subst (IsPlanShown old.situation) q sound.shown).0.feasible) (sym step.answered));
+  situation = subst IsSound (cc) (event_keeps_sound old.situation old.plan e sound.situation good
+      (λ t q. (subst (IsPlanShown old.situation) q sound.shown).0.feasible) (cc));
   shown = step.effect.shown;
 }
-step_keeps_sound old new e (Some r) sound good step = subst IsSoundState (sym step.effect) sound
+step_keeps_sound old new e (Some r) sound good step = rw step.effect sound
 
 pub run_keeps_sound : RunKeepsSoundLaw
 run_keeps_sound old [] [] sound good run = λ k d lt. absurd (omega arith)
 run_keeps_sound old [] (a ∷ answers) sound good run = absurd run
 run_keeps_sound old (e ∷ events) [] sound good run = absurd run
 run_keeps_sound old (e ∷ events) (a ∷ answers) sound good run =
-    let next = step_keeps_sound old a.state e a.answer sound (All-head IsGoodEvent e events good) run.0 in
-    All-cons (λ (b : Answered). IsSoundState b.state) a answers next
-    (run_keeps_sound a.state events answers next (All-tail IsGoodEvent e events good) run.1)
+    let next = step_keeps_sound old a.state e a.answer sound (All-head IsGoodEvent e _ good) run.0 in
+    All-cons (λ (b : Answered). IsSoundState b.state) a _ next
+    (run_keeps_sound a.state events answers next (All-tail IsGoodEvent e _ good) run.1)

@@ -16,8 +16,8 @@ use Rattle.landing_rules.specs.shared.Lines.{landing_line}
 frozen_same : (a b : Bool) → frozen_word a ≡ frozen_word b → a ≡ b
 frozen_same true true e = refl
 frozen_same false false e = refl
-frozen_same true false e = let k : 102 ≡ 119 = ap (λ (t : Bytes). first_or 0 (rest_of t)) e in absurd (omega (arith, k))
-frozen_same false true e = let k : 119 ≡ 102 = ap (λ (t : Bytes). first_or 0 (rest_of t)) e in absurd (omega (arith, k))
+frozen_same true false e = cc
+frozen_same false true e = cc
 
 frozen_cut : (a : Bool) → (t : Bytes) × (frozen_word a ≡ 32 ∷ t)
 frozen_cut true = (codes "frozen", refl)
@@ -29,20 +29,18 @@ landing_same f g p q m n e =
     let tails : f.callsign ++ codes " " ++ (decimal f.second ++ frozen_word f.frozen) ≡ g.callsign
     ++ codes " " ++ (decimal g.second ++ frozen_word g.frozen) =
     ap (λ (t : Bytes). rest_of (rest_of (rest_of (rest_of (rest_of t))))) e in
-    let names = cut_same 32 f.callsign g.callsign (decimal f.second ++ frozen_word f.frozen)
-    (decimal g.second ++ frozen_word g.frozen)
+    let names = cut_same 32 f.callsign g.callsign (decimal f.second ++ frozen_word f.frozen) _
     (name_without 32 f.callsign (omega arith) p) (name_without 32 g.callsign (omega arith) q)
-    (sym (append_assoc f.callsign (codes " ") (decimal f.second ++ frozen_word f.frozen)) ∙ tails
-    ∙ append_assoc g.callsign (codes " ") (decimal g.second ++ frozen_word g.frozen)) in
+    (sym (append_assoc f.callsign (codes " ") _) ∙ tails ∙ append_assoc g.callsign (codes " ") _) in
     let a = frozen_cut f.frozen in
     let b = frozen_cut g.frozen in
     let cut : decimal f.second ++ 32 ∷ a.0 ≡ decimal g.second ++ 32 ∷ b.0 =
     ap (λ (t : Bytes). decimal f.second ++ t) (sym a.1) ∙ names.1 ∙ ap (λ (t : Bytes). decimal g.second ++ t) b.1 in
-    let numbers = cut_same 32 (decimal f.second) (decimal g.second) a.0 b.0
+    let numbers = cut_same 32 _ _ a.0 b.0
     (decimal_without 32 f.second (omega arith) m) (decimal_without 32 g.second (omega arith) n) cut in
-    let second : f.second ≡ g.second = decimal_injective f.second g.second m n numbers.0 in
+    let second = decimal_injective f.second g.second m n numbers.0 in
     let words : frozen_word f.frozen ≡ frozen_word g.frozen = a.1 ∙ ap (λ (t : Bytes). 32 ∷ t) numbers.1 ∙ sym b.1 in
-    let frozen : f.frozen ≡ g.frozen = frozen_same f.frozen g.frozen words in
+    let frozen = frozen_same f.frozen g.frozen words in
     λ i. record { callsign = names.0 i; second = second i; frozen = frozen i }
 
 -- ---- a block
@@ -57,28 +55,26 @@ landings_same [] [] p q e = refl
 landings_same [] (g ∷ qs) p q e = absurd (cc e)
 landings_same (f ∷ ps) [] p q e = absurd (cc e)
 landings_same (f ∷ ps) (g ∷ qs) p q e =
-    let head : f ≡ g = landing_same f g p.0.0 q.0.0 p.0.1 q.0.1 (ap line_or e) in
+    let head = landing_same f g p.0.0 q.0.0 p.0.1 q.0.1 (ap line_or e) in
     rw (head, landings_same ps qs p.1 q.1 (ap rest_of e)) refl
 
 value_same : (o : Objective) (m n : ℕ) → m < 2 ^ 64 → n < 2 ^ 64 → objective_word o ++ decimal m ≡ objective_word o
     ++ decimal n → m ≡ n
-value_same Makespan m n p q e = decimal_injective m n p q
-    (ap (λ (t : Bytes). rest_of (rest_of (rest_of (rest_of (rest_of (rest_of (rest_of (rest_of (rest_of t))))))))) e)
-value_same Delay m n p q e =
-    decimal_injective m n p q (ap (λ (t : Bytes). rest_of (rest_of (rest_of (rest_of (rest_of (rest_of t)))))) e)
+value_same Makespan m n p q e = decimal_injective m n p q (cc)
+value_same Delay m n p q e = decimal_injective m n p q (cc)
 
 value_no_none : (o : Objective) (t : Bytes) → codes "infeasible" ≡ objective_word o ++ t → ⊥
-value_no_none Makespan t e = let k : 105 ≡ 109 = ap (first_or 0) e in omega (arith, k)
-value_no_none Delay t e = let k : 105 ≡ 100 = ap (first_or 0) e in omega (arith, k)
+value_no_none Makespan t e = let k = ap (first_or 0) e in omega (arith, k)
+value_no_none Delay t e = let k = ap (first_or 0) e in omega (arith, k)
 
 block_same : (o : Objective) (p q : Option ShownPlan) → IsShowable p → IsShowable q → block_lines o p ≡ block_lines o q
     → p ≡ q
 block_same o None None a b e = refl
-block_same o None (Some q) a b e = absurd (value_no_none o (decimal q.value) (ap line_or e))
-block_same o (Some p) None a b e = absurd (value_no_none o (decimal p.value) (sym (ap line_or e)))
+block_same o None (Some q) a b e = absurd (value_no_none o _ (ap line_or e))
+block_same o (Some p) None a b e = absurd (value_no_none o (decimal p.value) (cc))
 block_same o (Some p) (Some q) a b e =
-    let value : p.value ≡ q.value = value_same o p.value q.value a.0 b.0 (ap line_or e) in
-    let listed : p.landings ≡ q.landings = landings_same p.landings q.landings a.1 b.1 (ap rest_of e) in
+    let value = value_same o _ _ a.0 b.0 (ap line_or e) in
+    let listed = landings_same _ _ a.1 b.1 (ap rest_of e) in
     let same : p ≡ q = λ i. record { value = value i; landings = listed i } in
     ap Some same
 
@@ -91,11 +87,10 @@ landing_lines (f ∷ fs) h = (landing_line f h.0.0 h.0.1, landing_lines fs h.1)
 block_are_lines : (o : Objective) (p : Option ShownPlan) → IsShowable p → AreLines (block_lines o p)
 block_are_lines o None h = (all_without 10 (codes "infeasible") refl, tt)
 block_are_lines o (Some p) h = (
-  IsWithout-append 10 (objective_word o) _ (objective_without o) (decimal_without 10 p.value (omega arith) h.0),
-  landing_lines p.landings h.1,
+  IsWithout-append 10 _ _ (objective_without o) (decimal_without 10 _ (omega arith) h.0),
+  landing_lines _ h.1,
 )
 
 -- a block tells its plan
 pub block_law : BlockLaw
-block_law o p q a b e = block_same o p q a b (lines_same (block_lines o p) (block_lines o q)
-    (block_are_lines o p a) (block_are_lines o q b) e)
+block_law o p q a b e = block_same o p q a b (lines_same _ _ (block_are_lines o p a) (block_are_lines o q b) e)

@@ -33,4 +33,4 @@ tight_of_two s t n f h = record {
 pub none_of_two : (s : Situation) → length s.active ≡ 2 → ((a b : ℕ) → is_feasible s (a ∷ b ∷ []) ≡ true → ⊥)
     → (u : Schedule) → IsFeasible s u → ⊥
 none_of_two s n h u feasible = of_two (λ u. IsFeasible s u
-    → ⊥) (λ a b g. h a b ((is_feasible-Decides s (a ∷ b ∷ [])).1 g)) u (feasible.0 ∙ n) feasible
+    → ⊥) (λ a b g. h a b ((is_feasible-Decides s _).1 g)) u (feasible.0 ∙ n) feasible

@@ -1,6 +1,6 @@
 -- Flights by rank, the first of rank 1: a list read by rank is the list again, and keeps its order.
 use Rattle.std.proofs.Common.{◌≡◌, ℕ, zero, suc, ◌<◌, ◌≤◌, inl, inr, Bool, true, List, [], ◌∷◌, ◌++◌, length, map}
-use Rattle.std.proofs.Common.{get_or, refl, sym, ap, ap₂, subst, ◌∙◌, arith}
+use Rattle.std.proofs.Common.{get_or, refl, sym, ap, ap₂, ◌∙◌, arith}
 use Rattle.std.specs.Prelude.{IsPermutation}
 use Rattle.std.specs.List.{AllZip}
 pub use Rattle.std.proofs.lemmas.List.{get_or_past as get_past}
@@ -19,19 +19,15 @@ upto_last f (suc n) = ap (λ l. f (suc (suc n)) ∷ l) (upto_last f n)
 
 map_upto : {X : Type 0} (f g : ℕ → X) (n : ℕ) → ((r : ℕ) → 1 ≤ r → f r ≡ g r) → map f (upto n) ≡ map g (upto n)
 map_upto f g zero h = refl
-map_upto f g (suc n) h = ap₂ (λ x l. x ∷ l) (h (suc n) (omega arith)) (map_upto f g n h)
+map_upto f g (suc n) h = ap₂ (λ x l. x ∷ l) (omega arith) (map_upto f g n h)
 
 pub ranks_permute : {X : Type 0} (d : X) (xs : List X) → IsPermutation (map (of_rank d xs) (upto (length xs))) xs
 ranks_permute d [] = IsPermutation-refl []
 ranks_permute d (x ∷ xs) =
     let n = length xs in
-    let e : map (of_rank d (x ∷ xs)) (upto (suc n)) ≡ map (of_rank d xs) (upto n) ++ x ∷ [] =
-    upto_last (of_rank d (x ∷ xs)) n
-    ∙ ap (λ l. l ++ x ∷ []) (map_upto (λ r. of_rank d (x ∷ xs) (suc r)) (of_rank d xs) n (at_suc d x xs)) in
-    subst (λ l. IsPermutation l (x ∷ xs)) (sym e)
-    (IsPermutation-trans (map (of_rank d xs) (upto n) ++ x ∷ []) (x ∷ map (of_rank d xs) (upto n))
-    (x ∷ xs) (IsPermutation-to_front (map (of_rank d xs) (upto n)) x)
-    (IsPermutation-cons x (map (of_rank d xs) (upto n)) xs (ranks_permute d xs)))
+    let e = upto_last (of_rank d (x ∷ xs)) n ∙ ap (λ l. l ++ x ∷ []) (map_upto _ _ n (at_suc d x xs)) in
+    rw e (IsPermutation-trans _ _ _ (IsPermutation-to_front (map _ _) x)
+    (IsPermutation-cons x (map _ _) xs (ranks_permute d xs)))
 
 pub at_in : (d : ℕ) (xs : List ℕ) (r : ℕ) → 1 ≤ r → r ≤ length xs → In (of_rank d xs r) xs
 at_in d xs zero one le = absurd (omega arith)
@@ -43,7 +39,7 @@ pub in_at : (d : ℕ) (xs : List ℕ) (x : ℕ) → In x xs → (r : ℕ) × IsR
 in_at d [] x i = absurd i
 in_at d (y ∷ xs) x (inl e) = (1, (omega arith, omega arith), sym e)
 in_at d (y ∷ xs) x (inr i) = let w =
-    in_at d xs x i in (suc w.0, (omega arith, (let a = w.1.1 in omega arith)), at_suc d y xs w.0 w.1.0 ∙ w.2)
+    in_at d xs x i in (suc w.0, (omega arith, (omega arith)), at_suc d y xs w.0 w.1.0 ∙ w.2)
 
 pub ordered_at : (before : ℕ → ℕ → Bool) (d : ℕ) (xs : List ℕ) → Ordered before xs → (q r : ℕ)
     → 1 ≤ q → q < r → r ≤ length xs → before (of_rank d xs q) (of_rank d xs r) ≡ true
@@ -55,7 +51,7 @@ ordered_at before d (x ∷ xs) o (suc zero) (suc (suc r)) one lt le =
     o.0 (get_or xs r d) (at_in d xs (suc r) (omega arith) (omega arith))
 ordered_at before d (x ∷ xs) o (suc (suc q)) (suc zero) one lt le = absurd (omega arith)
 ordered_at before d (x ∷ xs) o (suc (suc q)) (suc (suc r)) one lt le =
-    ordered_at before d xs o.1 (suc q) (suc r) (omega arith) (omega arith) (omega arith)
+    ordered_at _ d xs o.1 (suc q) (suc r) (omega arith) (omega arith) (omega arith)
 
 -- ---- reads
 

@@ -8,8 +8,8 @@ use Rattle.cps_theory.specs.Labels.{InPairs, NoWorse, Pair, next_pair, no_worse}
 use Rattle.cps_theory.specs.LegalPrefix.{OrderRules}
 use Rattle.cps_theory.specs.Patterns.{PatternNode, PatternPermits, pattern_newest, pattern_node, pattern_push}
 use Rattle.cps_theory.specs.ClosedSets.{ClosedNodes}
-use Rattle.cps_theory.specs.CertificateClosure.{IsListed, IsListedOrStart, covers, covers_at, first_missed, is_missed}
-use Rattle.cps_theory.specs.CertificateClosure.{is_not_covered, missed_from, misses, node_cmp, permits_next}
+use Rattle.cps_theory.specs.CertificateClosure.{IsListed, IsListedOrStart, covers, first_missed}
+use Rattle.cps_theory.specs.CertificateClosure.{is_not_covered, missed_from, node_cmp}
 use Rattle.cps_theory.specs.laws.FirstFound.{from_none, or_none, with_number_none}
 use Rattle.cps_theory.specs.laws.NodeOrder.{node_tie, eq_of}
 use Rattle.cps_theory.specs.laws.PatternTests.{permits_is}
@@ -22,26 +22,26 @@ and_false false b e p = absurd (cc)
 no_worse_found : (q : Pair) (ps : List Pair) → list_any (λ o. no_worse o q) ps ≡ true
     → (o : Pair) × InPairs o ps × NoWorse o q
 no_worse_found q [] e = absurd (cc)
-no_worse_found q (o ∷ ps) e = elim (or_cases (no_worse o q) (list_any (λ o. no_worse o q) ps) e) [
+no_worse_found q (o ∷ ps) e = elim (or_cases _ _ e) [
   | inl h ↦ (o, inl refl, no_worse_true o q h)
   | inr h ↦ let m = no_worse_found q ps h in (m.0, inr m.1, m.2)
 ]
 
 any_false : (p : Pair → Bool) (b : Pair) (ps : List Pair) → list_any p ps ≡ false → InPairs b ps → p b ≡ false
 any_false p b [] e i = absurd i
-any_false p b (o ∷ ps) e (inl s) = ap p s ∙ (or_parts (p o) (list_any p ps) e).0
-any_false p b (o ∷ ps) e (inr i) = any_false p b ps (or_parts (p o) (list_any p ps) e).1 i
+any_false p b (o ∷ ps) e (inl s) = ap p s ∙ (or_parts _ _ e).0
+any_false p b (o ∷ ps) e (inr i) = any_false p b ps (or_parts _ _ e).1 i
 
 module _ {S : Type 0} (node_of : S → PatternNode) (pairs_of : S → List Pair) where
   pub covers_listed : (w : PatternNode) (q : Pair) (ss : List S) → covers node_of pairs_of ss w q ≡ true
       → (o : Pair) × IsListed node_of pairs_of ss w o × NoWorse o q
   unfolding covers
   covers_listed w q [] e = absurd (cc)
-  covers_listed w q (s ∷ ss) e = elim (or_cases (covers_at node_of pairs_of w q s) (covers node_of pairs_of ss w q) e) [
+  covers_listed w q (s ∷ ss) e = elim (or_cases _ _ e) [
     | inl h ↦
         let t = and_parts (is_eq (node_cmp (node_of s) w)) (list_any (λ o. no_worse o q) (pairs_of s)) h in
-        let m = no_worse_found q (pairs_of s) t.1 in
-        (m.0, inl (node_tie (node_of s) w (eq_of _ t.0), m.1), m.2)
+        let m = no_worse_found q _ t.1 in
+        (m.0, inl (node_tie _ w (eq_of _ t.0), m.1), m.2)
     | inr h ↦ let m = covers_listed w q ss h in (m.0, inr m.1, m.2)
   ]
 
@@ -53,15 +53,10 @@ module _ {S : Type 0} (node_of : S → PatternNode) (pairs_of : S → List Pair)
         → covers node_of pairs_of all (pattern_push g w r) q ≡ true
     unfolding first_missed
     none_missed w pairs e r b q m i n =
-        let out : misses node_of pairs_of g first after cost all w pairs r ≡ false = from_none
-        (misses node_of pairs_of g first after cost all w pairs) 1 g.count e r m.from_one (let t =
-        m.to_count in omega arith) in
-        let quiet = and_false (permits_next g w r)
-        (list_any (is_missed node_of pairs_of g first after cost all w r) pairs) out (permits_is g w r m) in
-        let kept = any_false (is_missed node_of pairs_of g first after cost all w r) b pairs quiet i in
-        let left : is_not_covered node_of pairs_of all (pattern_push g w r) (Some q) ≡ false =
-        ap (is_not_covered node_of pairs_of all (pattern_push g w r)) (sym n) ∙ kept in
-        not-false (covers node_of pairs_of all (pattern_push g w r) q) left
+        let out = from_none _ 1 g.count e r m.from_one (omega arith) in
+        let kept = any_false _ b _ (and_false _ _ out (permits_is g w r m)) i in
+        let left = ap (is_not_covered node_of pairs_of all (pattern_push g w r)) (sym n) ∙ kept in
+        not-false _ left
 
     listed_missed : (i : ℕ) (ss : List S) → missed_from node_of pairs_of g first after cost all i ss ≡ None
         → (w : PatternNode) (b : Pair) → IsListed node_of pairs_of ss w b → (s : S) × (node_of s ≡ w)
@@ -82,20 +77,18 @@ module _ {S : Type 0} (node_of : S → PatternNode) (pairs_of : S → List Pair)
       step = λ w r p q l m e. elim l [
         | inl s ↦
             let m' = subst (λ (z : PatternNode). PatternPermits g z r) s.0 m in
-            let e' = subst (λ (z : PatternNode). next_pair first after cost z.2 (0, 0) r ≡ Some q) s.0
-            (subst (λ (z : Pair). next_pair first after cost w.2 z r ≡ Some q) s.1 e) in
+            let e' = subst (λ (z : PatternNode). next_pair first after cost z.2 (0, 0) r ≡ Some q) s.0 (cc) in
             let c = none_missed (pattern_node g []) ((0, 0) ∷ []) from_start r (0, 0) q m' (inl refl) e' in
             let o = covers_listed (pattern_push g (pattern_node g []) r) q all c in (
               o.0,
-              inr (subst (λ (z : PatternNode). IsListed node_of pairs_of all (pattern_push g z r) o.0)
-                  (sym s.0) o.1),
+              inr (subst (λ (z : PatternNode). IsListed node_of pairs_of all (pattern_push g z r) o.0) (sym s.0) o.1),
               o.2,
             )
         | inr b ↦
             let k = listed_missed 1 all from_states w p b in
-            let m' = subst (λ (z : PatternNode). PatternPermits g z r) (sym k.1) m in
             let e' = subst (λ (z : PatternNode). next_pair first after cost z.2 p r ≡ Some q) (sym k.1) e in
-            let c = none_missed (node_of k.0) (pairs_of k.0) k.3 r p q m' k.2 e' in
+            let c = none_missed (node_of k.0) (pairs_of k.0) k.3 r p q
+            (subst (λ (z : PatternNode). PatternPermits g z r) (sym k.1) m) k.2 e' in
             let o = covers_listed (pattern_push g (node_of k.0) r) q all c in (
               o.0,
               inr (subst (λ (z : PatternNode). IsListed node_of pairs_of all (pattern_push g z r) o.0) k.1 o.1),

@@ -1,7 +1,7 @@
 -- States whose successor pairs are all covered bound every feasible schedule by the least value of the final ones, and
 -- with no final state nothing is feasible.
-use Rattle.std.proofs.Common.{◌≡◌, ℕ, ◌+◌, ◌≤◌, inl, inr, Bool, true, false, cond, ◌&&◌, ◌||◌, eqb, ltb, List, [], ◌∷◌}
-use Rattle.std.proofs.Common.{Option, Some, None, refl, sym, ap, subst, ◌∙◌, arith}
+use Rattle.std.proofs.Common.{◌≡◌, ℕ, ◌+◌, ◌≤◌, inl, inr, Bool, true, false, cond, ◌&&◌, ◌||◌, ltb, List, [], ◌∷◌}
+use Rattle.std.proofs.Common.{Option, Some, None, refl, sym, ap, ◌∙◌, arith}
 use Rattle.std.specs.Prelude.{nat_lt}
 use Rattle.std.specs.List.{list_any}
 use Rattle.std.proofs.lemmas.Bool.{eq-eqb, ltb-false, false≢true}
@@ -9,7 +9,7 @@ use Rattle.cps_theory.specs.Retiming.{IsFirstOpen}
 use Rattle.cps_theory.specs.Labels.{InPairs, NeverCheaper, NoWorse, Pair}
 use Rattle.cps_theory.specs.Patterns.{PatternNode, pattern_node}
 use Rattle.cps_theory.specs.FirstFound.{element_from}
-use Rattle.cps_theory.specs.CertificateClosure.{IsListed, IsListedOrStart, first_missed, is_final, is_final_below}
+use Rattle.cps_theory.specs.CertificateClosure.{IsListed, first_missed, is_final, is_final_below}
 use Rattle.cps_theory.specs.CertificateClosure.{missed_from}
 use Rattle.cps_theory.specs.Feasible.{Feasible, RankedProblem, SoundProblem, next_from, second_and_cost}
 use Rattle.cps_theory.specs.laws.CertificateClosure.{closure_closed}
@@ -19,13 +19,13 @@ use Rattle.cps_theory.specs.laws.LeastObjective.{closed_certificate_optimal, clo
 none_below : (value : Pair → ℕ) (v : ℕ) (ps : List Pair) (q : Pair) → list_any (λ q. nat_lt (value q) v) ps ≡ false
     → InPairs q ps → v ≤ value q
 none_below value v [] q e i = absurd i
-none_below value v (x ∷ ps) q e i = go (ltb (value x) v) refl e i (λ f j. none_below value v ps q f j)
+none_below value v (x ∷ ps) q e i = go _ refl e i (λ f j. none_below _ v ps q f j)
   where
     go : (b : Bool) → ltb (value x) v ≡ b → b || list_any (λ q. nat_lt (value q) v) ps ≡ false
         → InPairs q (x ∷ ps) → (list_any (λ q. nat_lt (value q) v) ps ≡ false → InPairs q ps → v ≤ value q)
         → v ≤ value q
     go true y e i more = absurd (cc)
-    go false y e (inl s) more = subst (λ (z : Pair). v ≤ value z) (sym s) (ltb-false (value x) v y)
+    go false y e (inl s) more = rw s (ltb-false _ v y)
     go false y e (inr j) more = more e j
 
 module _ {S : Type 0} (node_of : S → PatternNode) (pairs_of : S → List Pair) where
@@ -35,8 +35,7 @@ module _ {S : Type 0} (node_of : S → PatternNode) (pairs_of : S → List Pair)
       × InPairs q (pairs_of s) × (test s ≡ false)
   unfolding element_from
   listed_passes_not test i [] e w q l = absurd l
-  listed_passes_not test i (s ∷ ss) e w q l =
-      go (test s) refl e l (λ e' l'. listed_passes_not test (i + 1) ss e' w q l')
+  listed_passes_not test i (s ∷ ss) e w q l = go _ refl e l (λ e' l'. listed_passes_not _ (i + 1) ss e' w q l')
     where
       go : (b : Bool) → test s ≡ b → cond b (Some i) (element_from test (i + 1) ss) ≡ None
           → IsListed node_of pairs_of (s ∷ ss) w q
@@ -51,11 +50,8 @@ module _ {S : Type 0} (node_of : S → PatternNode) (pairs_of : S → List Pair)
       → element_from (is_final_below node_of pairs_of n value v) 1 ss ≡ None → (w : PatternNode) (q : Pair)
       → w.0 ≡ n → IsListed node_of pairs_of ss w q → v ≤ value q
   final_not_below n value v ss e w q at l =
-      let k = listed_passes_not (is_final_below node_of pairs_of n value v) 1 ss e w q l in
-      let same : (node_of k.0).0 ≡ n = ap (λ (z : PatternNode). z.0) k.1 ∙ at in
-      none_below value v (pairs_of k.0) q
-      (go (eqb (node_of k.0).0 n) (list_any (λ q. nat_lt (value q) v) (pairs_of k.0))
-      (eq-eqb (node_of k.0).0 n same) k.3) k.2
+      let k = listed_passes_not _ 1 ss e w q l in
+      none_below _ v _ q (go _ _ (eq-eqb _ n (cc)) k.3) k.2
     where
       go : (a b : Bool) → a ≡ true → a && b ≡ false → b ≡ false
       go true b x y = y
@@ -64,10 +60,8 @@ module _ {S : Type 0} (node_of : S → PatternNode) (pairs_of : S → List Pair)
   pub none_final : (n : ℕ) (ss : List S) → element_from (is_final node_of pairs_of n) 1 ss ≡ None
       → (w : PatternNode) (q : Pair) → w.0 ≡ n → IsListed node_of pairs_of ss w q → ⊥
   none_final n ss e w q at l =
-      let k = listed_passes_not (is_final node_of pairs_of n) 1 ss e w q l in
-      let same : (node_of k.0).0 ≡ n = ap (λ (z : PatternNode). z.0) k.1 ∙ at in
-      let x = eq-eqb (node_of k.0).0 n same in
-      false≢true (sym k.3 ∙ x)
+      let k = listed_passes_not _ 1 ss e w q l in
+      false≢true (sym k.3 ∙ (eq-eqb _ n (cc)))
 
   -- ---- for a problem, the states of which miss no successor pair, whatever else they list
   module _ (p : RankedProblem) (cost : ℕ → ℕ → ℕ) (sound : SoundProblem p) (first : ℕ → ℕ
@@ -79,23 +73,19 @@ module _ {S : Type 0} (node_of : S → PatternNode) (pairs_of : S → List Pair)
         → 1 ≤ p.rules.count → (v : ℕ) → element_from (is_final_below node_of pairs_of p.rules.count value v) 1 ss ≡ None
         → (t : ℕ → ℕ) → Feasible p t → v ≤ value (second_and_cost cost p.rules.count t)
     accepted_optimal value mono some v e t f =
-        closed_certificate_optimal p cost sound value mono first opens dearer
-        (IsListedOrStart node_of pairs_of p.rules ss)
-        (closure_closed node_of pairs_of p.rules first (next_from p) cost ss from_start from_states) v
+        closed_certificate_optimal p _ sound _ mono _ opens dearer _
+        (closure_closed _ _ _ _ _ _ ss from_start from_states) v
         (λ w q at l. elim l [
           | inl s ↦ (let z = ap (λ (d : PatternNode). d.0) s.0 in absurd (omega arith))
-          | inr b ↦
-              final_not_below p.rules.count value v ss e w q at b
+          | inr b ↦ final_not_below _ _ v ss e w q at b
         ]) t f
 
     pub accepted_infeasible : 1 ≤ p.rules.count → element_from (is_final node_of pairs_of p.rules.count) 1 ss ≡ None
         → (t : ℕ → ℕ) → Feasible p t → ⊥
     accepted_infeasible some e t f =
-        closed_certificate_infeasible p cost sound (λ q. q.0) (λ a b le. le.0) first opens dearer
-        (IsListedOrStart node_of pairs_of p.rules ss)
-        (closure_closed node_of pairs_of p.rules first (next_from p) cost ss from_start from_states)
+        closed_certificate_infeasible p _ sound _ (λ a b le. le.0) _ opens dearer _
+        (closure_closed _ _ _ _ _ _ ss from_start from_states)
         (λ w q at l. elim l [
           | inl s ↦ (let z = ap (λ (d : PatternNode). d.0) s.0 in absurd (omega arith))
-          | inr b ↦
-              none_final p.rules.count ss e w q at b
+          | inr b ↦ none_final _ ss e w q at b
         ]) t f

@@ -20,8 +20,7 @@ module _ (Open : ℕ → ℕ → Type 0) (first : ℕ → ℕ → Option ℕ) (a
       → (xs : List Landing) → Legal (ranks xs) → Landed Open after xs → (p : Pair) × Lists (node (ranks xs)) p
       × NoWorse p (pair_of cost xs)
   closed_nodes_cover W Legal node Permitted push newest net Lists c =
-      closed_covers Open first after cost opens later dearer Legal (λ r rs l. (net.shrinks r rs l).0)
-      (λ rs p. Lists (node rs) p)
+      closed_covers _ _ _ _ opens later dearer _ (λ r rs l. (net.shrinks r rs l).0) _
       (record {
         start = c.start;
         step = λ r rs legal p q listed e.
@@ -40,14 +39,12 @@ module _ (Open : ℕ → ℕ → Type 0) (first : ℕ → ℕ → Option ℕ) (a
         → (xs : List Landing) → Legal g (ranks xs) → Landed Open after xs → length (ranks xs) ≡ g.count
         → v ≤ value (pair_of cost xs)
     closed_landings_optimal value mono v final xs legal landed whole =
-        let k = closed_nodes_cover PatternNode (Legal g) (pattern_node g) (PatternPermits g)
-        (pattern_push g) pattern_newest (pattern_network g ones) Lists c xs legal landed in
+        let k = closed_nodes_cover _ _ _ _ _ _ (pattern_network g ones) _ c xs legal landed in
         le_trans (final (pattern_node g (ranks xs)) k.0 whole k.1) (mono k.0 (pair_of cost xs) k.2)
 
     -- nothing lands at all, if the last stage has no state
     pub closed_landings_infeasible : ((w : PatternNode) (p : Pair) → w.0 ≡ g.count → Lists w p → ⊥)
         → (xs : List Landing) → Legal g (ranks xs) → Landed Open after xs → length (ranks xs) ≡ g.count → ⊥
     closed_landings_infeasible none xs legal landed whole =
-        let k = closed_nodes_cover PatternNode (Legal g) (pattern_node g) (PatternPermits g)
-        (pattern_push g) pattern_newest (pattern_network g ones) Lists c xs legal landed in
+        let k = closed_nodes_cover _ _ _ _ _ _ (pattern_network g ones) _ c xs legal landed in
         none (pattern_node g (ranks xs)) k.0 whole k.1

@@ -11,7 +11,7 @@ use Rattle.cps_theory.specs.CompletingPairs.{UndominatedCompleting, onto}
 use Rattle.cps_theory.specs.laws.LabelDominance.{last_ranks}
 
 pub no_earlier_no_dearer_trans : (p q r : Pair) → NoEarlierNoDearer p q → NoEarlierNoDearer q r → NoEarlierNoDearer p r
-no_earlier_no_dearer_trans p q r h k = (le_trans k.0 h.0, le_trans h.1 k.1)
+no_earlier_no_dearer_trans p q r h k = omega arith
 
 -- where no kept pair is worse than another, the kept pairs are the undominated ones
 pub completing_undominated : (Completing Keeps : Pair → Type 0) → KeptCompleting Completing Keeps
@@ -22,15 +22,14 @@ completing_undominated Completing Keeps k anti p kept = record {
   best = λ q a le.
       let c = k.covers q a in
       let e = anti c.0 p c.1 kept (no_earlier_no_dearer_trans c.0 q p c.2 le) in
-      let first : q.0 ≤ p.0 = subst (λ (x : Pair). q.0 ≤ x.0) e c.2.0 in
-      let second : p.1 ≤ q.1 = subst (λ (x : Pair). x.1 ≤ q.1) e c.2.1 in
-      ap₂ (λ x y. (x, y)) (le_antisymm first le.0) (le_antisymm le.1 second);
+      ap₂ (λ x y. (x, y)) (le_antisymm (subst (λ (x : Pair). q.0 ≤ x.0) e c.2.0) le.0)
+      (le_antisymm le.1 (subst (λ (x : Pair). x.1 ≤ q.1) e c.2.1));
 }
 
 pub undominated_completing : (Completing Keeps : Pair → Type 0) → KeptCompleting Completing Keeps
     → (p : Pair) → UndominatedCompleting Completing p → Keeps p
 undominated_completing Completing Keeps k p u = let c =
-    k.covers p u.completes in subst Keeps (u.best c.0 (k.completes c.0 c.1) c.2) c.1
+    k.covers p u.completes in rw (u.best c.0 (k.completes c.0 c.1) c.2) at c.1
 
 module _ (W : Type 0) (Open : ℕ → ℕ → Type 0) (first : ℕ → ℕ → Option ℕ) (after : ℕ → ℕ → ℕ
     → ℕ) (cost : ℕ → ℕ → ℕ) (Legal : List ℕ → Type 0) (node : List ℕ → W) (Permitted : W → ℕ
@@ -55,23 +54,20 @@ module _ (W : Type 0) (Open : ℕ → ℕ → Type 0) (first : ℕ → ℕ → O
   newest_push : (w : W) (b r : ℕ) → Reached Open after Legal node w b → Permitted w r → newest (push w r) ≡ r
   newest_push w b r x p =
       let rs = ranks x.landings in
-      let p' = subst (λ v. Permitted v r) (sym x.at) p in
       sym (ap newest (net.pushes r rs x.legal ∙ ap (λ v. push v r) x.at))
-      ∙ net.newest_is (r ∷ rs) (net.grows r rs x.legal p')
+      ∙ net.newest_is (r ∷ rs) (net.grows r rs x.legal (rw x.at p))
 
   pub reached_push : (w : W) (b r t : ℕ) → Reached Open after Legal node w b → Permitted w r
       → Open r t → after (newest w) b r ≤ t → Reached Open after Legal node (push w r) t
   reached_push w b r t x p o le =
       let rs = ranks x.landings in
-      let p' = subst (λ v. Permitted v r) (sym x.at) p in
-      let l : newest w ≡ (latest_landing x.landings).0 = ap newest (sym x.at) ∙ newest_last x.landings x.legal in
       record {
         landings = (r, t) ∷ x.landings;
-        legal = net.grows r rs x.legal p';
+        legal = net.grows r rs x.legal (subst (λ v. Permitted v r) (sym x.at) p);
         landed = (
           o,
           le_trans (later.mono (latest_landing x.landings).0 (latest_landing x.landings).1 b r x.by)
-              (subst (λ k. after k b r ≤ t) l le),
+              (subst (λ k. after k b r ≤ t) (ap newest (sym x.at) ∙ newest_last _ x.legal) le),
           x.landed,
         );
         at = net.pushes r rs x.legal ∙ ap (λ v. push v r) x.at;
@@ -117,10 +113,9 @@ module _ (W : Type 0) (Open : ℕ → ℕ → Type 0) (first : ℕ → ℕ → O
             o.0,
             o.1,
             lower s.1 s.2.0 s.6 c.low,
-            follows_mono
-                (push w s.0) s.1 s.2.0 c.rest s.6 c.follows,
+            follows_mono (push w s.0) s.1 s.2.0 c.rest s.6 c.follows,
           );
-          cost_is = let a = c.cost_is in let b = s.7 in omega arith;
+          cost_is = omega arith;
         };
     covers = λ q c. by q c c.rest c.follows c.cost_is;
   }
@@ -139,22 +134,21 @@ module _ (W : Type 0) (Open : ℕ → ℕ → Type 0) (first : ℕ → ℕ → O
             cost_is = refl;
           } in
           let o = (nexts y.0 f.0).covers (y.1, cost_of cost ys) done in
-          let n = enough q.0 y.0 x.0 o.0 c.opened c.reached c.low f.0 x.1 o.1 (le_trans x.2 o.2.0) in
+          let n = enough q.0 y.0 x.0 o.0 c.opened c.reached c.low f.0 x.1 o.1 (omega arith) in
           let d = dearer.mono y.0 x.0 y.1 x.2 in
-          (n.0, n.1, (n.2.0, let a = n.2.1 in let b = o.2.1 in omega arith))
+          (n.0, n.1, (omega arith))
 
   -- what follows a landing trail makes it whole
   pub continued_whole : (xs ys : List Landing) → Legal (ranks xs) → Landed Open after xs → AllLow Low xs
       → Follow (node (ranks xs)) (latest_landing xs).1 ys → Legal (ranks (onto ys xs)) × Landed Open after (onto ys xs)
       × Final (node (ranks (onto ys xs))) × AllLow Low (onto ys xs)
       × (cost_of cost (onto ys xs) ≡ cost_of cost xs + cost_of cost ys)
-  continued_whole xs [] l d a f = (l, d, f, a, let z = cost_of cost xs in omega arith)
+  continued_whole xs [] l d a f = (l, d, f, a, omega arith)
   continued_whole xs (y ∷ ys) l d a f =
-      let d' : Landed Open after (y ∷ xs) =
-      (f.1, subst (λ k. after k (latest_landing xs).1 y.0 ≤ y.1) (newest_last xs l) f.2, d) in
-      let r = continued_whole (y ∷ xs) ys (net.grows y.0 (ranks xs) l f.0) d' (f.3, a)
-      (subst (λ w. Follow w y.1 ys) (sym (net.pushes y.0 (ranks xs) l)) f.4) in
-      (r.0, r.1, r.2, r.3, let e = r.4 in omega arith)
+      let d' : Landed Open after (y ∷ xs) = (f.1, rw (newest_last xs l) at f.2, d) in
+      let r = continued_whole _ ys (net.grows y.0 (ranks xs) l f.0) d' (f.3, a)
+      (rw (net.pushes y.0 (ranks xs) l) f.4) in
+      (r.0, r.1, r.2, r.3, omega arith)
 
   -- and of a whole landing trail the rest follows its front
   pub whole_continued : (xs ys : List Landing) → Legal (ranks (onto ys xs)) → Landed Open after (onto ys xs)
@@ -162,17 +156,10 @@ module _ (W : Type 0) (Open : ℕ → ℕ → Type 0) (first : ℕ → ℕ → O
       × AllLow Low xs × Follow (node (ranks xs)) (latest_landing xs).1 ys
   whole_continued xs [] l d f a = (l, d, a, f)
   whole_continued xs (y ∷ ys) l d f a =
-      let r = whole_continued (y ∷ xs) ys l d f a in
+      let r = whole_continued _ ys l d f a in
       let s = net.shrinks y.0 (ranks xs) r.0 in (
         s.0,
         r.1.2,
         r.2.1,
-        (
-          s.1,
-          r.1.0,
-          subst (λ k. after k (latest_landing xs).1 y.0 ≤ y.1)
-              (sym (newest_last xs s.0)) r.1.1,
-          r.2.0,
-          subst (λ w. Follow w y.1 ys) (net.pushes y.0 (ranks xs) s.0) r.3,
-        ),
+        (s.1, r.1.0, rw (newest_last xs s.0) r.1.1, r.2.0, rw (net.pushes y.0 (ranks xs) s.0) at r.3),
       )

@@ -1,6 +1,6 @@
 -- A landing trail continued by flights listed earliest first: its ranks, its cost, its order and its earliest landings.
 use Rattle.std.proofs.Common.{◌≡◌, ℕ, ◌+◌, ◌≤◌, inl, inr, List, [], ◌∷◌, Option, Some, arith, refl, sym, ap, ap₂}
-use Rattle.std.proofs.Common.{subst, ◌∙◌, le_refl, option_map, ◌<◌, ◌⊎◌}
+use Rattle.std.proofs.Common.{subst, ◌∙◌, le_refl, ◌<◌, ◌⊎◌}
 use Rattle.cps_theory.specs.RankLists.{In}
 use Rattle.cps_theory.specs.Separation.{Landing}
 use Rattle.cps_theory.specs.LandingTrail.{cost_of, latest_landing, ranks}
@@ -14,12 +14,12 @@ use Rattle.cps_theory.specs.laws.OptionSteps.{bound, mapped}
 
 pub ranks_onto : (ys xs : List Landing) → ranks (onto ys xs) ≡ onto (ranks ys) (ranks xs)
 ranks_onto [] xs = refl
-ranks_onto (y ∷ ys) xs = ranks_onto ys (y ∷ xs)
+ranks_onto (y ∷ ys) xs = ranks_onto ys _
 
 pub cost_onto : (cost : ℕ → ℕ → ℕ) (ys xs : List Landing)
     → cost_of cost (onto ys xs) ≡ cost_of cost xs + cost_of cost ys
-cost_onto cost [] xs = let z = cost_of cost xs in omega arith
-cost_onto cost (y ∷ ys) xs = let e = cost_onto cost ys (y ∷ xs) in omega arith
+cost_onto cost [] xs = omega arith
+cost_onto cost (y ∷ ys) xs = omega (arith, cost_onto cost ys (y ∷ xs))
 
 pub no_later_low : (Low : ℕ → Type 0) → ((t u : ℕ) → t ≤ u → Low u → Low t) → (xs ys : List Landing)
     → NoLater xs ys → AllLow Low ys → AllLow Low xs
@@ -34,7 +34,7 @@ no_later_cost cost dearer [] [] n = le_refl 0
 no_later_cost cost dearer [] (y ∷ ys) n = absurd n
 no_later_cost cost dearer (x ∷ xs) [] n = absurd n
 no_later_cost cost dearer (x ∷ xs) (y ∷ ys) n =
-    let a = no_later_cost cost dearer xs ys n.2 in
+    let a = no_later_cost _ dearer xs ys n.2 in
     let b = subst (λ r. cost x.0 x.1 ≤ cost r y.1) n.0 (dearer.mono x.0 x.1 y.1 n.1) in
     omega arith
 
@@ -43,8 +43,8 @@ no_greater_order_antisym [] [] a b = refl
 no_greater_order_antisym [] (y ∷ ys) a b = absurd b
 no_greater_order_antisym (x ∷ xs) [] a b = absurd a
 no_greater_order_antisym (x ∷ xs) (y ∷ ys) (inl a) (inl b) = absurd (omega arith)
-no_greater_order_antisym (x ∷ xs) (y ∷ ys) (inl a) (inr b) = absurd (let e = b.0 in omega arith)
-no_greater_order_antisym (x ∷ xs) (y ∷ ys) (inr a) (inl b) = absurd (let e = a.0 in omega arith)
+no_greater_order_antisym (x ∷ xs) (y ∷ ys) (inl a) (inr b) = absurd (omega arith)
+no_greater_order_antisym (x ∷ xs) (y ∷ ys) (inr a) (inl b) = absurd (omega arith)
 no_greater_order_antisym (x ∷ xs) (y ∷ ys) (inr a) (inr b) =
     ap₂ (λ z zs. z ∷ zs) a.0 (no_greater_order_antisym xs ys a.1 b.1)
 
@@ -53,9 +53,8 @@ pub earliest_head : (first : ℕ → ℕ → Option ℕ) (after : ℕ → ℕ �
     → earliest first after (r ∷ rs) ≡ Some ys → (xs : List Landing) × (t : ℕ) × (earliest first after rs ≡ Some xs)
     × (first r (after (latest_landing xs).0 (latest_landing xs).1 r) ≡ Some t) × (ys ≡ (r, t) ∷ xs)
 earliest_head first after r rs ys e =
-    let b = bound (λ xs. option_map (λ t. (r, t) ∷ xs) (first r (after (latest_landing xs).0 (latest_landing xs).1 r)))
-    (earliest first after rs) ys e in
-    let m = mapped (λ t. (r, t) ∷ b.0) (first r (after (latest_landing b.0).0 (latest_landing b.0).1 r)) ys b.2 in
+    let b = bound _ _ ys e in
+    let m = mapped _ _ ys b.2 in
     (b.0, m.0, b.1, m.1, sym m.2)
 
 -- the earliest landings of an order are those of its front, and some behind
@@ -64,34 +63,34 @@ pub earliest_front : (first : ℕ → ℕ → Option ℕ) (after : ℕ → ℕ �
     × (earliest first after rs ≡ Some xs) × (zs ≡ onto ys xs)
 earliest_front first after [] rs zs e = (zs, [], e, refl)
 earliest_front first after (q ∷ qs) rs zs e =
-    let w = earliest_front first after qs (q ∷ rs) zs e in
+    let w = earliest_front first after qs _ zs e in
     let h = earliest_head first after q rs w.0 w.2 in
     (h.0, (q, h.1) ∷ w.1, h.2, w.3 ∙ ap (onto w.1) h.4)
 
 pub onto_in : (z : ℕ) (qs rs : List ℕ) → In z (onto qs rs) → In z qs ⊎ In z rs
 onto_in z [] rs i = inr i
 onto_in z (q ∷ qs) rs i =
-    elim (onto_in z qs (q ∷ rs) i) [ inl j ↦ inl (inr j) | inr j ↦ elim j [ inl e ↦ inl (inl e) | inr k ↦ inr k ] ]
+    elim (onto_in z qs _ i) [ inl j ↦ inl (inr j) | inr j ↦ elim j [ inl e ↦ inl (inl e) | inr k ↦ inr k ] ]
 
 pub in_onto : (z : ℕ) (qs rs : List ℕ) → In z qs ⊎ In z rs → In z (onto qs rs)
 in_onto z [] rs (inl i) = absurd i
 in_onto z [] rs (inr i) = i
-in_onto z (q ∷ qs) rs (inl (inl e)) = in_onto z qs (q ∷ rs) (inr (inl e))
-in_onto z (q ∷ qs) rs (inl (inr i)) = in_onto z qs (q ∷ rs) (inl i)
-in_onto z (q ∷ qs) rs (inr i) = in_onto z qs (q ∷ rs) (inr (inr i))
+in_onto z (q ∷ qs) rs (inl (inl e)) = in_onto z qs _ (inr (inl e))
+in_onto z (q ∷ qs) rs (inl (inr i)) = in_onto z qs _ (inl i)
+in_onto z (q ∷ qs) rs (inr i) = in_onto z qs _ (inr (inr i))
 
 pub onto_descends : (t : ℕ → ℕ) (qs rs : List ℕ) → Ascends t qs → Descends t rs
     → ((q r : ℕ) → In q qs → In r rs → t r < t q) → Descends t (onto qs rs)
 onto_descends t [] rs a d lt = d
-onto_descends t (q ∷ qs) rs a d lt = onto_descends t qs (q ∷ rs) a.1 (λ y i. lt q y (inl refl) i, d)
-    (λ x r i j. elim j [ inl e ↦ let b = a.0 x i in let c = ap t e in omega arith | inr k ↦ lt x r (inr i) k ])
+onto_descends t (q ∷ qs) rs a d lt = onto_descends t qs _ a.1 (λ y i. lt q y (inl refl) i, d)
+    (λ x r i j. elim j [ inl e ↦ omega (arith, ap t e) | inr k ↦ lt x r (inr i) k ])
 
 pub onto_ascends : (t : ℕ → ℕ) (rs qs : List ℕ) → Descends t rs → Ascends t qs
     → ((q r : ℕ) → In q qs → In r rs → t r < t q) → Ascends t (onto rs qs)
 onto_ascends t [] qs d a lt = a
-onto_ascends t (r ∷ rs) qs d a lt = onto_ascends t rs (r ∷ qs) d.1 (λ y i. lt y r i (inl refl), a)
-    (λ x y i j. elim i [ inl e ↦ let b = d.0 y j in let c = ap t e in omega arith | inr k ↦ lt x y k (inr j) ])
+onto_ascends t (r ∷ rs) qs d a lt = onto_ascends t rs _ d.1 (λ y i. lt y r i (inl refl), a)
+    (λ x y i j. elim i [ inl e ↦ omega (arith, ap t e) | inr k ↦ lt x y k (inr j) ])
 
 pub onto_twice : (xs ys : List ℕ) → onto (onto xs ys) [] ≡ onto ys xs
 onto_twice [] ys = refl
-onto_twice (x ∷ xs) ys = onto_twice xs (x ∷ ys)
+onto_twice (x ∷ xs) ys = onto_twice xs _

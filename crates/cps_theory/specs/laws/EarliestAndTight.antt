@@ -1,19 +1,18 @@
 -- A schedule is tight exactly where each flight lands at its earliest second in the order of the schedule.
-use Rattle.std.proofs.Common.{◌≡◌, ℕ, inl, inr, List, [], ◌∷◌, length, Option, Some, true, arith, sym, ap, subst, ◌∙◌}
+use Rattle.std.proofs.Common.{◌≡◌, ℕ, inl, inr, List, [], ◌∷◌, length, Option, Some, true, arith, ap, ◌∙◌}
 use Rattle.std.proofs.Common.{le_antisymm}
 use Rattle.cps_theory.specs.RankLists.{In, IsRank}
 use Rattle.cps_theory.specs.Separation.{Landing}
 use Rattle.cps_theory.specs.Retiming.{IsFirstOpen}
-use Rattle.cps_theory.specs.LandingTrail.{Landed, ranks}
+use Rattle.cps_theory.specs.LandingTrail.{ranks}
 use Rattle.cps_theory.specs.LegalPrefix.{Legal}
 use Rattle.cps_theory.specs.Feasible.{RankedProblem, SoundProblem, Tight, at_seconds, earliest, next_from, second_in}
 use Rattle.cps_theory.specs.laws.EarliestLandings.{earliest_lands}
 use Rattle.cps_theory.specs.laws.FeasibleOrder.{at_seconds_agree, landed_descends}
 use Rattle.cps_theory.specs.laws.FrozenFront.{each_fits_distinct}
-use Rattle.cps_theory.specs.laws.LandingOrder.{sorted, Descends, sorted_in, in_sorted}
+use Rattle.cps_theory.specs.laws.LandingOrder.{sorted, sorted_in, in_sorted}
 use Rattle.cps_theory.specs.laws.LeastObjective.{at_second_in, landing_trail_feasible}
 use Rattle.cps_theory.specs.laws.LegalPrefix.{legal_each_fits, in_from_one}
-use Rattle.cps_theory.specs.laws.OptionSteps.{some_same}
 use Rattle.cps_theory.specs.laws.OrderBySeconds.{descends_equal, separate}
 use Rattle.cps_theory.specs.laws.RanksOfList.{all_ranks}
 use Rattle.cps_theory.specs.laws.TightMaps.{tighten}
@@ -23,8 +22,7 @@ heads x y xs ys e = cc
 
 pub agree_at : (t u : ℕ → ℕ) (rs : List ℕ) → at_seconds t rs ≡ at_seconds u rs → (r : ℕ) → In r rs → t r ≡ u r
 agree_at t u [] e r i = absurd i
-agree_at t u (x ∷ rs) e r (inl s) = subst (λ z. t z ≡ u z) (sym s)
-    (ap (λ (y : Landing). y.1) (heads (x, t x) (x, u x) (at_seconds t rs) (at_seconds u rs) e))
+agree_at t u (x ∷ rs) e r (inl s) = rw s (ap (λ (y : Landing). y.1) (heads _ _ _ _ e))
 agree_at t u (x ∷ rs) e r (inr i) = agree_at t u rs (let a : at_seconds t rs ≡ at_seconds u rs = cc in a) r i
 
 module _ (p : RankedProblem) (sound : SoundProblem p) (first : ℕ → ℕ → Option ℕ)
@@ -34,8 +32,8 @@ module _ (p : RankedProblem) (sound : SoundProblem p) (first : ℕ → ℕ → O
       → earliest first (next_from p) (sorted u p.rules.count) ≡ Some (at_seconds u (sorted u p.rules.count))
   tight_earliest u t =
       let n = p.rules.count in
-      let w = tighten p sound first opens u t.feasible in
-      w.4 ∙ ap Some (at_seconds_agree w.0 u (sorted u n) (λ r i. let q =
+      let w = tighten p sound _ opens u t.feasible in
+      w.4 ∙ ap Some (at_seconds_agree w.0 u _ (λ r i. let q =
       sorted_in u n r i in le_antisymm (w.3 r q) (t.least w.0 w.1.feasible w.2 r q)))
 
   -- and what an order lands at its earliest seconds is tight
@@ -46,22 +44,19 @@ module _ (p : RankedProblem) (sound : SoundProblem p) (first : ℕ → ℕ → O
       let n = p.rules.count in
       let rs = ranks zs in
       let t = second_in zs in
-      let pl = legal_each_fits p.rules rs legal in
-      let differ = each_fits_distinct p.rules rs pl in
-      let landed = (earliest_lands (λ r u. p.is_open r u ≡ true) first (next_from p) opens rs zs e).0 in
-      let at : at_seconds t rs ≡ zs = at_second_in zs differ in
+      let pl = legal_each_fits _ rs legal in
+      let differ = each_fits_distinct _ rs pl in
+      let landed = (earliest_lands _ _ (next_from p) opens rs zs e).0 in
+      let at = at_second_in zs differ in
       let f = (landing_trail_feasible p (λ r u. 0) sound zs legal landed whole).0 in
-      let d : Descends t rs = landed_descends p t sound rs pl
-      (subst (Landed (λ r u. p.is_open r u ≡ true) (next_from p)) (sym at) landed) in
-      let ranked : (x : ℕ) → In x rs → IsRank n x = λ x i. in_from_one p.rules x rs pl i in
-      let s : sorted t n ≡ rs = descends_equal t (sorted t n) rs (separate p t sound f) d
+      let d = landed_descends p t sound rs pl (rw at landed) in
+      let ranked : (x : ℕ) → In x rs → IsRank n x = λ x i. in_from_one _ x rs pl i in
+      let s = descends_equal t _ rs (separate p t sound f) d
       (λ z i. all_ranks n rs differ ranked whole z (sorted_in t n z i)) (λ z i. in_sorted t n z (ranked z i)) in
-      let w = tighten p sound first opens t f in
-      let same : at_seconds w.0 (sorted t n) ≡ at_seconds t (sorted t n) = some_same (at_seconds w.0 (sorted t n))
-      (at_seconds t (sorted t n)) (sym w.4 ∙ ap (earliest first (next_from p)) s ∙ e
-      ∙ ap Some (sym at ∙ ap (at_seconds t) (sym s))) in
+      let w = tighten p sound _ opens t f in
+      let same : at_seconds w.0 (sorted t n) ≡ at_seconds t (sorted t n) = cc in
       let agree : (r : ℕ) → IsRank n r → w.0 r ≡ t r =
-      λ r q. agree_at w.0 t (sorted t n) same r (in_sorted t n r q) in (
+      λ r q. agree_at w.0 t _ same r (in_sorted t n r q) in (
         record {
           feasible = f;
           least = λ v fv sv r q. let a = w.1.least v fv (λ x y qx qy. let g = w.2 x y qx qy in let h =

@@ -1,5 +1,5 @@
 -- Of all landings of one order the earliest are least at every place.
-use Rattle.std.proofs.Common.{◌≡◌, ℕ, ◌≤◌, List, [], ◌∷◌, Option, Some, option_and_then, option_map, refl, sym, ap}
+use Rattle.std.proofs.Common.{◌≡◌, ℕ, ◌≤◌, List, [], ◌∷◌, Option, Some, option_and_then, option_map, refl, ap}
 use Rattle.std.proofs.Common.{subst, ◌∙◌, le_refl, le_trans}
 use Rattle.cps_theory.specs.Separation.{Landing}
 use Rattle.cps_theory.specs.Retiming.{IsFirstOpen, NeverEarlier}
@@ -28,9 +28,8 @@ module _ (Open : ℕ → ℕ → Type 0) (first : ℕ → ℕ → Option ℕ) (a
   earliest_lands [] [] e = (tt, refl)
   earliest_lands [] (x ∷ xs) e = cc
   earliest_lands (r ∷ rs) ys e =
-      let b = bound (λ xs. option_map (λ t. (r, t) ∷ xs)
-      (first r (after (latest_landing xs).0 (latest_landing xs).1 r))) (earliest first after rs) ys e in
-      let m = mapped (λ t. (r, t) ∷ b.0) (first r (after (latest_landing b.0).0 (latest_landing b.0).1 r)) ys b.2 in
+      let b = bound _ _ ys e in
+      let m = mapped _ _ ys b.2 in
       let found = opens.found r (after (latest_landing b.0).0 (latest_landing b.0).1 r) m.0 m.1 in
       let rest = earliest_lands rs b.0 b.1 in
       subst (λ zs. Landed Open after zs × (ranks zs ≡ r ∷ rs)) m.2 ((found.0, found.1, rest.0), ap (λ l. r ∷ l) rest.1)
@@ -40,15 +39,12 @@ module _ (Open : ℕ → ℕ → Type 0) (first : ℕ → ℕ → Option ℕ) (a
   earliest_least later [] l = ([], refl, tt)
   earliest_least later (y ∷ ys) l =
       let rest = earliest_least later ys l.2 in
-      let n = no_later_last rest.0 ys rest.2 in
-      let start : after (latest_landing rest.0).0 (latest_landing rest.0).1 y.0 ≤ y.1 =
-      le_trans (subst (λ k. after k (latest_landing rest.0).1 y.0 ≤ after (latest_landing ys).0
-      (latest_landing ys).1 y.0) (sym n.0) (later.mono (latest_landing ys).0 (latest_landing rest.0).1
+      let n = no_later_last _ ys rest.2 in
+      let start =
+      le_trans (rw n.0 (later.mono (latest_landing ys).0 (latest_landing rest.0).1
       (latest_landing ys).1 y.0 n.1)) l.1 in
       let f = opens.least y.0 (after (latest_landing rest.0).0 (latest_landing rest.0).1 y.0) y.1 l.0 start in (
         (y.0, f.0) ∷ rest.0,
-        ap (option_and_then (λ xs. option_map (λ t. (y.0, t) ∷ xs)
-            (first y.0 (after (latest_landing xs).0 (latest_landing xs).1 y.0)))) rest.1
-            ∙ ap (option_map (λ t. (y.0, t) ∷ rest.0)) f.1,
+        ap (option_and_then (λ xs. option_map _ _)) rest.1 ∙ ap (option_map _) f.1,
         (refl, f.2, rest.2),
       )

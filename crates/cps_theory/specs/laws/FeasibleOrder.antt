@@ -1,6 +1,6 @@
 -- A feasible schedule, said pair by pair, is one whose seconds land a legal order of all flights.
 use Rattle.std.proofs.Common.{ap₂, ◌≡◌, ◌≢◌, ℕ, zero, suc, ◌+◌, ◌<◌, ◌≤◌, ◌⊎◌, inl, inr, List, [], ◌∷◌, ◌++◌, length}
-use Rattle.std.proofs.Common.{true, ltb, nat_lt, arith, refl, sym, ap, subst, ◌∙◌, append_assoc, le_trans}
+use Rattle.std.proofs.Common.{true, ltb, arith, refl, sym, ap, subst, ◌∙◌, append_assoc, le_trans}
 use Rattle.cps_theory.specs.RankLists.{Distinct, In, IsRank, upto}
 use Rattle.cps_theory.specs.LandingTrail.{Landed, cost_of, latest_landing, ranks}
 use Rattle.cps_theory.specs.LegalPrefix.{EachFits}
@@ -29,8 +29,7 @@ at_seconds_agree t t' (r ∷ rs) h =
 -- how many land earlier, counted over any list of all ranks
 pub earlier_in : (n : ℕ) (t : ℕ → ℕ) (r : ℕ) (rs : List ℕ) → Distinct rs → ((x : ℕ) → In x rs → IsRank n x)
     → length rs ≡ n → earlier n t r ≡ count (λ q. ltb (t q) (t r)) rs
-earlier_in n t r rs d in' e = count_is (λ q. nat_lt (t q) (t r)) (upto n)
-    ∙ sym (count_ranks (λ q. ltb (t q) (t r)) n rs d in' e)
+earlier_in n t r rs d in' e = count_is _ _ ∙ sym (count_ranks _ n rs d in' e)
 
 module _ (p : RankedProblem) (t : ℕ → ℕ) (sound : SoundProblem p) where
   abbrev LandsAt : List ℕ → Type 0
@@ -48,10 +47,10 @@ module _ (p : RankedProblem) (t : ℕ → ℕ) (sound : SoundProblem p) where
 
   landed_at : (x : ℕ) (rs : List ℕ) → LandsAt rs → In x rs → (p.is_open x (t x) ≡ true) × (p.start x ≤ t x)
   landed_at x [] l i = absurd i
-  landed_at x (r ∷ rs) l (inl e) = subst (λ y. (p.is_open y (t y) ≡ true) × (p.start y ≤ t y)) (sym e) (
+  landed_at x (r ∷ rs) l (inl e) = rw e (
     l.0,
     let a =
-        from_last (latest_landing (at_seconds t rs)).0 (latest_landing (at_seconds t rs)).1 r in le_trans a l.1,
+        from_last _ _ r in le_trans a l.1,
   )
   landed_at x (r ∷ rs) l (inr i) = landed_at x rs l.2 i
 
@@ -61,14 +60,14 @@ module _ (p : RankedProblem) (t : ℕ → ℕ) (sound : SoundProblem p) where
   apart_head y r (q ∷ rs) pl l i = go i (apart_head y q rs pl.1 l.2)
     where
       near : t q + p.apart q r ≤ t r
-      near = le_trans (after_last q (t q) r pl.0.from_one) l.1
+      near = le_trans (after_last q _ r pl.0.from_one) l.1
 
       go : (y ≡ q) ⊎ In y rs → (In y rs → t y + p.apart y q ≤ t q) → t y + p.apart y r ≤ t r
-      go (inl e) ih = subst (λ z. t z + p.apart z r ≤ t r) (sym e) near
-      go (inr j) ih = let a = ih j in let b = sound.triangle y q r in let c = near in omega arith
+      go (inl e) ih = rw e near
+      go (inr j) ih = let b = sound.triangle y q r in let c = near in omega arith
 
   below_head : (y r : ℕ) (rs : List ℕ) → EachFits p.rules rs → LandsAt (r ∷ rs) → In y rs → t y < t r
-  below_head y r rs pl l i = let a = apart_head y r rs pl l i in let b = sound.positive y r in omega arith
+  below_head y r rs pl l i = omega (arith, apart_head y r rs pl l i)
 
   pub landed_descends : (rs : List ℕ) → EachFits p.rules rs → LandsAt rs → Descends t rs
   landed_descends [] pl l = tt
@@ -79,16 +78,14 @@ module _ (p : RankedProblem) (t : ℕ → ℕ) (sound : SoundProblem p) where
   apart_in f g [] pl l i j ne le = absurd i
   apart_in f g (r ∷ rs) pl l (inl e) (inl e') ne le = absurd (ne (e ∙ sym e'))
   apart_in f g (r ∷ rs) pl l (inl e) (inr j) ne le = let a =
-      below_head g r rs pl.1 l j in absurd (let s = ap t e in omega arith)
-  apart_in f g (r ∷ rs) pl l (inr i) (inl e) ne le =
-      subst (λ z. t f + p.apart f z ≤ t z) (sym e) (apart_head f r rs pl.1 l i)
+      below_head g r rs pl.1 l j in absurd (omega (arith, ap t e))
+  apart_in f g (r ∷ rs) pl l (inr i) (inl e) ne le = rw e (apart_head f r rs pl.1 l i)
   apart_in f g (r ∷ rs) pl l (inr i) (inr j) ne le = apart_in f g rs pl.1 l.2 i j ne le
 
   order_in : (f g : ℕ) (rs : List ℕ) → EachFits p.rules rs → LandsAt rs → In g rs → p.rules.before f g ≡ true
       → t f < t g
   order_in f g [] pl l i b = absurd i
-  order_in f g (r ∷ rs) pl l (inl e) b = subst (λ z. t f < t z) (sym e)
-      (below_head f r rs pl.1 l (pl.0.after f (subst (λ z. p.rules.before f z ≡ true) e b)))
+  order_in f g (r ∷ rs) pl l (inl e) b = subst (λ z. t f < t z) (sym e) (below_head f r rs pl.1 l (pl.0.after f (cc)))
   order_in f g (r ∷ rs) pl l (inr i) b = order_in f g rs pl.1 l.2 i b
 
   -- the place of each
@@ -97,24 +94,20 @@ module _ (p : RankedProblem) (t : ℕ → ℕ) (sound : SoundProblem p) where
       × (suc (count (λ q. ltb (t q) (t r)) all) ≤ r + p.rules.back r)
   place_in all d front [] e pl r i = absurd i
   place_in all d front (x ∷ rs) e pl r (inr i) =
-      place_in all d (front ++ x ∷ []) rs (e ∙ sym (append_assoc front (x ∷ []) rs)) pl.1 r i
+      place_in all d (front ++ x ∷ []) rs (e ∙ sym (append_assoc _ _ rs)) pl.1 r i
   place_in all d front (x ∷ rs) e pl r (inl s) =
-      let here : count (λ q. ltb (t q) (t x)) all ≡ length rs =
-      ap (count (λ q. ltb (t q) (t x))) e ∙ descends_place t front x rs (subst (Descends t) e d) in
-      let a = pl.0.not_early in
-      let b = pl.0.not_late in
+      let here = ap (count (λ q. ltb (t q) (t x))) e ∙ descends_place t _ x rs (rw e at d) in
       let both : (x ≤ suc (count (λ q. ltb (t q) (t x)) all) + p.rules.most)
-      × (suc (count (λ q. ltb (t q) (t x)) all) ≤ x + p.rules.back x) = (omega arith, omega arith) in
-      subst (λ z. (z ≤ suc (count (λ q. ltb (t q) (t z)) all) + p.rules.most)
-      × (suc (count (λ q. ltb (t q) (t z)) all) ≤ z + p.rules.back z)) (sym s) both
+      × (suc (count (λ q. ltb (t q) (t x)) all) ≤ x + p.rules.back x) = omega arith in
+      rw s both
 
   pub lands_feasible : (rs : List ℕ) → LandsAllRanks p t rs → Feasible p t
   lands_feasible rs l =
       let n = p.rules.count in
-      let pl = legal_each_fits p.rules rs l.legal in
-      let d = each_fits_distinct p.rules rs pl in
-      let in' : (x : ℕ) → In x rs → IsRank n x = λ x i. in_from_one p.rules x rs pl i in
-      let has : (x : ℕ) → IsRank n x → In x rs = all_ranks n rs d in' l.whole in
+      let pl = legal_each_fits _ rs l.legal in
+      let d = each_fits_distinct _ rs pl in
+      let in' : (x : ℕ) → In x rs → IsRank n x = λ x i. in_from_one _ x rs pl i in
+      let has = all_ranks n rs d in' l.whole in
       let place = place_in rs (landed_descends rs pl l.landed) [] rs refl pl in
       record {
         opened = λ r q. (landed_at r rs l.landed (has r q)).0;
@@ -131,19 +124,17 @@ module _ (p : RankedProblem) (t : ℕ → ℕ) (sound : SoundProblem p) where
 
   module _ (f : Feasible p t) where
     apart_seconds : (a b : ℕ) → IsRank p.rules.count a → IsRank p.rules.count b → a ≢ b → t a ≢ t b
-    apart_seconds a b qa qb ne e = let s = f.separated a b qa qb ne (omega arith) in let o =
-        sound.positive a b in omega arith
+    apart_seconds a b qa qb ne e = omega (arith, sound.positive a b)
 
     descends : Descends t (sorted t p.rules.count)
-    descends = sorted_descends t p.rules.count apart_seconds
+    descends = sorted_descends t _ apart_seconds
 
     -- what lands before an element of the order stands behind it
     behind : (front : List ℕ) (r : ℕ) (rs : List ℕ) → Descends t (front ++ r ∷ rs) → (x : ℕ)
         → In x (front ++ r ∷ rs) → t x < t r → In x rs
-    behind [] r rs d x (inl e) lt = absurd (let s = ap t e in omega arith)
+    behind [] r rs d x (inl e) lt = absurd (omega (arith, ap t e))
     behind [] r rs d x (inr i) lt = i
-    behind (y ∷ front) r rs d x (inl e) lt = absurd (let a = d.0 r (in_middle r front rs) in let s =
-        ap t e in omega arith)
+    behind (y ∷ front) r rs d x (inl e) lt = absurd (let a = d.0 r (in_middle r _ rs) in let s = ap t e in omega arith)
     behind (y ∷ front) r rs d x (inr i) lt = behind front r rs d.1 x i lt
 
     tail_descends : (front rs : List ℕ) → Descends t (front ++ rs) → Descends t rs
@@ -154,34 +145,31 @@ module _ (p : RankedProblem) (t : ℕ → ℕ) (sound : SoundProblem p) where
         → Descends t (r ∷ rs) → next_from p (latest_landing (at_seconds t rs)).0
         (latest_landing (at_seconds t rs)).1 r ≤ t r
     from_next [] r in' d = f.started r (in' r (inl refl))
-    from_next (zero ∷ rs) r in' d = absurd (let a = (in' 0 (inr (inl refl))).0 in omega arith)
+    from_next (zero ∷ rs) r in' d = absurd (omega (arith, (in' 0 (inr (inl refl))).0))
     from_next (suc l ∷ rs) r in' d =
         let lt = d.0 (suc l) (inl refl) in
         let qr = in' r (inl refl) in
         let a = f.separated (suc l) r (in' (suc l) (inr (inl refl))) qr (λ e. let s =
         ap t e in omega arith) (omega arith) in
-        let b = f.started r qr in
         omega arith
 
     walk : (front rs : List ℕ) → sorted t p.rules.count ≡ front ++ rs → EachFits p.rules rs × LandsAt rs
     walk front [] e = (tt, tt)
     walk front (r ∷ rs) e =
         let n = p.rules.count in
-        let d = subst (Descends t) e descends in
-        let in' : (x : ℕ) → In x (front ++ r ∷ rs) → IsRank n x = λ x i. sorted_in t n x (subst (In x) (sym e) i) in
+        let d = rw e at descends in
+        let in' : (x : ℕ) → In x (front ++ r ∷ rs) → IsRank n x = λ x i. sorted_in t n x (rw e i) in
         let q = in' r (in_middle r front rs) in
-        let rest = walk (front ++ r ∷ []) rs (e ∙ sym (append_assoc front (r ∷ []) rs)) in
+        let rest = walk (front ++ r ∷ []) rs (e ∙ sym (append_assoc front _ rs)) in
         let dr = tail_descends front (r ∷ rs) d in
-        let place : earlier n t r ≡ length rs =
-        earlier_in n t r (sorted t n) (descends_distinct t (sorted t n) descends) (sorted_in t n) (length-sorted t n)
-        ∙ ap (count (λ x. ltb (t x) (t r))) e ∙ descends_place t front r rs d in
-        let early = f.not_early r q in
-        let late = f.not_late r q in (
+        let place =
+        earlier_in n t r _ (descends_distinct t _ descends) (sorted_in t n) (length-sorted t n)
+        ∙ ap (count (λ x. ltb (t x) (t r))) e ∙ descends_place t front r rs d in (
           (
             record {
               from_one = q.0;
               to_count = q.1;
-              is_new = λ i. let a = dr.0 r i in omega arith;
+              is_new = λ i. omega (arith, dr.0 r i);
               not_early = omega arith;
               not_late = omega arith;
               after = λ a b. let qa = sound.ranked a r b in behind front r rs d a (subst (In a) e (in_sorted t n a qa))
@@ -215,24 +203,23 @@ module _ (p : RankedProblem) (t : ℕ → ℕ) (sound : SoundProblem p) where
 
   cost_at : (cost : ℕ → ℕ → ℕ) (rs : List ℕ) → cost_of cost (at_seconds t rs) ≡ total (λ r. cost r (t r)) rs
   cost_at cost [] = refl
-  cost_at cost (r ∷ rs) = let a = cost_at cost rs in omega arith
+  cost_at cost (r ∷ rs) = omega (arith, cost_at cost rs)
 
   pub cost_all : (cost : ℕ → ℕ → ℕ) (rs : List ℕ) → LandsAllRanks p t rs
       → cost_of cost (at_seconds t rs) ≡ total (λ r. cost r (t r)) (upto p.rules.count)
   cost_all cost rs l =
-      let pl = legal_each_fits p.rules rs l.legal in
-      cost_at cost rs ∙ total_ranks (λ r. cost r (t r)) p.rules.count rs (each_fits_distinct p.rules rs pl)
-      (λ x i. in_from_one p.rules x rs pl i) l.whole
+      let pl = legal_each_fits _ rs l.legal in
+      cost_at _ rs ∙ total_ranks _ _ rs (each_fits_distinct _ rs pl) (λ x i. in_from_one _ x rs pl i) l.whole
 
   -- the last second is the greatest
   pub last_greatest : (rs : List ℕ) → LandsAllRanks p t rs → (r : ℕ) → IsRank p.rules.count r
       → t r ≤ (latest_landing (at_seconds t rs)).1
   last_greatest rs l r q =
-      let pl = legal_each_fits p.rules rs l.legal in
-      go rs (landed_descends rs pl l.landed) (all_ranks p.rules.count rs (each_fits_distinct p.rules rs pl)
-      (λ x i. in_from_one p.rules x rs pl i) l.whole r q)
+      let pl = legal_each_fits _ rs l.legal in
+      go rs (landed_descends rs pl l.landed) (all_ranks _ rs (each_fits_distinct _ rs pl)
+      (λ x i. in_from_one _ x rs pl i) l.whole r q)
     where
       go : (rs : List ℕ) → Descends t rs → In r rs → t r ≤ (latest_landing (at_seconds t rs)).1
       go [] d i = absurd i
-      go (x ∷ rs) d (inl e) = let s = ap t e in omega arith
-      go (x ∷ rs) d (inr i) = let a = d.0 r i in omega arith
+      go (x ∷ rs) d (inl e) = omega (arith, ap t e)
+      go (x ∷ rs) d (inr i) = omega arith

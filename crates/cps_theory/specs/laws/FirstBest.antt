@@ -1,5 +1,5 @@
 -- There is at most one first best schedule, and least choices build it, whatever the objective.
-use Rattle.std.proofs.Common.{◌≡◌, ◌≢◌, ℕ, ◌+◌, ◌≤◌, List, [], ◌∷◌, length, Option, Some, true, arith, refl, sym, ap}
+use Rattle.std.proofs.Common.{◌≡◌, ◌≢◌, ℕ, ◌≤◌, List, [], ◌∷◌, length, Option, Some, true, arith, refl, sym, ap}
 use Rattle.std.proofs.Common.{subst, ◌∙◌, le_trans}
 use Rattle.cps_theory.specs.RankLists.{IsRank}
 use Rattle.cps_theory.specs.Separation.{Landing}
@@ -40,24 +40,25 @@ first_best_unique p sound value t u a b r q =
     let os = onto (sorted u n) [] in
     let ot = sorted_in_order p t sound ft in
     let ou = sorted_in_order p u sound fu in
-    let e : qs ≡ os = no_greater_order_antisym qs os (a.least u b.best b.tight qs os ot ou)
+    let e = no_greater_order_antisym qs os (a.least u b.best b.tight qs os ot ou)
     (b.least t a.best a.tight os qs ou ot) in
-    let s : sorted t n ≡ sorted u n = sym (onto_twice (sorted t n) []) ∙ ap (λ l. onto l []) e
-    ∙ onto_twice (sorted u n) [] in
     let dt = separate p t sound ft in
-    let du : Descends u (sorted t n) = subst (Descends u) (sym s) (separate p u sound fu) in
+    let du = subst (Descends u) (sym (sym (onto_twice _ []) ∙ ap (λ l. onto l []) e ∙ onto_twice _ []))
+    (separate p u sound fu) in
     tight_unique p t u a.tight b.tight (λ f g qf qg. let i = in_sorted t n f qf in let j = in_sorted t n g qg in
-    (descends_same t u (sorted t n) dt du f g i j, descends_same u t (sorted t n) du dt f g i j)) r q
+    (descends_same t u _ dt du f g i j, descends_same u t _ du dt f g i j)) r q
 
 -- nothing follows the node of a whole prefix
 pub nodes_closed : (p : RankedProblem) → SoundProblem p → (rs : List ℕ) (r : ℕ) → Legal p.rules rs
     → length rs ≡ p.rules.count → PatternPermits p.rules (pattern_node p.rules rs) r → ⊥
 nodes_closed p sound rs r l whole permitted =
-    let net = pattern_network p.rules (λ a x b. (sound.ranked a x b).0) in
-    let pl = legal_each_fits p.rules (r ∷ rs) (net.grows r rs l permitted) in
-    let few = few_ranks p.rules.count (r ∷ rs) (each_fits_distinct p.rules (r ∷ rs) pl)
-    (λ x i. in_from_one p.rules x (r ∷ rs) pl i) in
-    omega arith
+    let pl = legal_each_fits _ (r ∷ rs)
+    ((pattern_network _ (λ a x b. (sound.ranked a x b).0)).grows r rs l permitted) in
+    omega (
+      arith,
+      few_ranks p.rules.count (r ∷ rs) (each_fits_distinct p.rules (r ∷ rs) pl)
+          (λ x i. in_from_one p.rules x (r ∷ rs) pl i),
+    )
 
 module _ (p : RankedProblem) (sound : SoundProblem p) (first : ℕ → ℕ → Option ℕ)
     (opens : IsFirstOpen (λ r u. p.is_open r u ≡ true) first) where
@@ -71,10 +72,8 @@ module _ (p : RankedProblem) (sound : SoundProblem p) (first : ℕ → ℕ → O
     -- nothing follows the node of a whole prefix
     closed : (rs : List ℕ) (r : ℕ) → Legal p.rules rs → stage (node rs) ≡ p.rules.count → Permitted (node rs) r → ⊥
     closed rs r l whole permitted =
-        let pl = legal_each_fits p.rules (r ∷ rs) (net.grows r rs l permitted) in
-        let few = few_ranks p.rules.count (r ∷ rs) (each_fits_distinct p.rules (r ∷ rs) pl)
-        (λ x i. in_from_one p.rules x (r ∷ rs) pl i) in
-        let s = staged rs in
+        let pl = legal_each_fits _ (r ∷ rs) (net.grows r rs l permitted) in
+        let few = few_ranks _ (r ∷ rs) (each_fits_distinct _ (r ∷ rs) pl) (λ x i. in_from_one _ x (r ∷ rs) pl i) in
         omega arith
 
     -- a landing trail of least choices is an order of least choices
@@ -88,14 +87,7 @@ module _ (p : RankedProblem) (sound : SoundProblem p) (first : ℕ → ℕ → O
     built_greedy [] b l qs g = (qs, g, refl)
     built_greedy (x ∷ xs) b l qs g =
         let s = net.shrinks x.0 (ranks xs) l in
-        built_greedy xs b.2 s.0 (x.0 ∷ qs) (
-          x.1,
-          b.0,
-          b.1,
-          subst (λ w. LeastChoices W first (next_from p) cost Permitted push newest
-              (λ v. stage v ≡ p.rules.count) Keeps budget w (x.1, cost_of cost xs + cost x.0 x.1) qs)
-              (net.pushes x.0 (ranks xs) s.0) g,
-        )
+        built_greedy xs b.2 s.0 (x.0 ∷ qs) (x.1, b.0, b.1, rw (net.pushes x.0 (ranks xs) s.0) at g)
 
     -- which lands at its earliest seconds
     pub built_earliest : (zs : List Landing)
@@ -104,9 +96,7 @@ module _ (p : RankedProblem) (sound : SoundProblem p) (first : ℕ → ℕ → O
     built_earliest [] b l = refl
     built_earliest (x ∷ xs) b l =
         let s = net.shrinks x.0 (ranks xs) l in
-        (choice_more W (λ r u. p.is_open r u ≡ true) first (next_from p) cost
-        (Legal p.rules) node Permitted push newest opens (next_later p) dearer net
-        (λ w. stage w ≡ p.rules.count) closed Low lower Keeps kept budget (ranks xs) xs s.0
+        (choice_more W _ _ _ _ _ _ _ _ _ opens (next_later p) dearer net _ closed Low lower _ kept _ _ xs s.0
         (built_earliest xs b.2 s.0) x.0 x.1 b.0).1
 
     built_low : (zs : List Landing)
@@ -115,9 +105,7 @@ module _ (p : RankedProblem) (sound : SoundProblem p) (first : ℕ → ℕ → O
     built_low [] b l = tt
     built_low (x ∷ xs) b l =
         let s = net.shrinks x.0 (ranks xs) l in (
-          (choice_more W (λ r u. p.is_open r u ≡ true) first (next_from p) cost
-              (Legal p.rules) node Permitted push newest opens (next_later p) dearer net
-              (λ w. stage w ≡ p.rules.count) closed Low lower Keeps kept budget (ranks xs) xs s.0
+          (choice_more W _ _ _ _ _ _ _ _ _ opens (next_later p) dearer net _ closed Low lower _ kept _ _ xs s.0
               (built_earliest xs b.2 s.0) x.0 x.1 b.0).2,
           built_low xs b.2 s.0,
         )
@@ -129,11 +117,9 @@ module _ (p : RankedProblem) (sound : SoundProblem p) (first : ℕ → ℕ → O
         → Legal p.rules (ranks zs) → (qs : List ℕ) × OrderWithinBudget first (next_from p) cost
         (Legal p.rules) node (λ w. stage w ≡ p.rules.count) Low budget (onto qs (ranks zs))
     built_good u fu low cheap [] b l =
-        let n = p.rules.count in
-        let su = sorted u n in
+        let su = sorted u p.rules.count in
         let fl = feasible_lands p u sound fu in
-        let e = earliest_least (λ r t. p.is_open r t ≡ true) first (next_from p) opens (next_later p)
-        (at_seconds u su) fl.landed in
+        let e = earliest_least _ _ _ opens (next_later p) _ fl.landed in
         let good : OrderWithinBudget first (next_from p) cost (Legal p.rules) node
         (λ w. stage w ≡ p.rules.count) Low budget su = record {
           legal = fl.legal;
@@ -142,16 +128,10 @@ module _ (p : RankedProblem) (sound : SoundProblem p) (first : ℕ → ℕ → O
           earliest_is = ap (earliest first (next_from p)) (sym (ranks_at u su)) ∙ e.1;
           low = no_later_low Low lower e.0 (at_seconds u su) e.2 low;
           cheap = le_trans (no_later_cost cost dearer e.0 (at_seconds u su) e.2) cheap;
-        } in (
-          onto su [],
-          subst (λ l. OrderWithinBudget first (next_from p) cost (Legal p.rules) node
-              (λ w. stage w ≡ p.rules.count) Low budget l) (sym (onto_twice su [])) good,
-        )
+        } in (onto su [], rw (onto_twice su []) good)
     built_good u fu low cheap (x ∷ xs) b l =
         let s = net.shrinks x.0 (ranks xs) l in
-        choice_goes_on W (λ r t. p.is_open r t ≡ true) first (next_from p) cost
-        (Legal p.rules) node Permitted push newest opens (next_later p) dearer net
-        (λ w. stage w ≡ p.rules.count) closed Low lower Keeps kept budget (ranks xs) xs s.0
+        choice_goes_on W _ _ _ _ _ _ _ _ _ opens (next_later p) dearer net _ closed Low lower _ kept budget _ xs s.0
         (built_earliest xs b.2 s.0) (built_low xs b.2 s.0) x.0 x.1 b.0
 
     -- so the loop that tries the ranks finds its next one
@@ -163,9 +143,7 @@ module _ (p : RankedProblem) (sound : SoundProblem p) (first : ℕ → ℕ → O
         (pair_of cost zs) r t
     built_goes_on u fu low cheap zs b l short =
         let g = built_good u fu low cheap zs b l in
-        good_goes_on W (λ r t. p.is_open r t ≡ true) first (next_from p) cost
-        (Legal p.rules) node Permitted push newest opens (next_later p) dearer net
-        (λ w. stage w ≡ p.rules.count) closed Low lower Keeps kept budget (ranks zs) zs
+        good_goes_on W _ _ _ _ _ _ _ _ _ opens (next_later p) dearer net _ closed Low lower _ kept budget _ zs
         (built_earliest zs b l) (λ e. short (sym (staged (ranks zs)) ∙ e)) g.0 g.1
 
     -- a whole landing trail of least choices, whose landings are the earliest, makes the first best schedule
@@ -183,28 +161,24 @@ module _ (p : RankedProblem) (sound : SoundProblem p) (first : ℕ → ℕ → O
     built_first value v within back least zs legal whole built =
         let n = p.rules.count in
         let g = built_greedy zs built legal [] (staged (ranks zs) ∙ whole) in
-        let f = least_choices_first W (λ r u. p.is_open r u ≡ true) first (next_from p) cost
-        (Legal p.rules) node Permitted push newest opens (next_later p) dearer net
-        (λ w. stage w ≡ n) closed Low lower Keeps kept budget net.empty g.0 g.1 in
+        let f = least_choices_first W _ _ _ _ _ _ _ _ _ opens (next_later p) dearer net
+        _ closed Low lower _ kept budget net.empty g.0 g.1 in
         let t = second_in zs in
-        let rs : List ℕ = ranks zs in
+        let rs = ranks zs in
         let e = built_earliest zs built legal in
-        let et = earliest_tight p sound first opens zs legal whole e in
+        let et = earliest_tight p sound _ opens zs legal whole e in
         let good = f.0 in
-        let landings_is : good.landings ≡ zs =
-        some_same good.landings zs (sym good.earliest_is ∙ ap (earliest first (next_from p)) g.2 ∙ e) in
-        let landed = (earliest_lands (λ r u. p.is_open r u ≡ true) first (next_from p) opens rs zs e).0 in
+        let landings_is = some_same good.landings zs (cc) in
+        let landed = (earliest_lands _ _ (next_from p) opens rs zs e).0 in
         let tf = landing_trail_feasible p cost sound zs legal landed whole in
-        let v_zs : value (pair_of cost zs) ≤ v = back zs legal landed whole (subst (AllLow Low) landings_is good.low)
-        (subst (λ (xs : List Landing). cost_of cost xs ≤ budget) landings_is good.cheap) in
-        let v_t : value (second_and_cost cost n t) ≤ v = subst (λ q. value q ≤ v) tf.1 v_zs in (
+        let v_zs = back zs legal landed whole (rw landings_is at good.low) (rw landings_is at good.cheap) in
+        let v_t : value (second_and_cost cost n t) ≤ v = rw tf.1 at v_zs in (
           record {
             best = record { feasible = tf.0; least = λ u fu. le_trans v_t (least u fu) };
             tight = et.0;
             least = λ u bu tu qs os oq ou.
-                let q_is : onto qs [] ≡ onto g.0 [] = in_order_sorted p t sound tf.0 qs oq ∙ et.1 ∙ sym g.2 in
-                let qs_is : g.0 ≡ qs = sym (onto_twice g.0 []) ∙ ap (λ l. onto l []) (sym q_is) ∙ onto_twice qs [] in
-                let o_is : sorted u n ≡ onto os [] = sym (in_order_sorted p u sound bu.feasible os ou) in
+                let qs_is : g.0 ≡ qs = sym (onto_twice g.0 []) ∙ ap (λ l. onto l [])
+                (sym (in_order_sorted p t sound tf.0 qs oq ∙ et.1 ∙ sym g.2)) ∙ onto_twice qs [] in
                 let su = sorted u n in
                 let us = at_seconds u su in
                 let fl = feasible_lands p u sound bu.feasible in
@@ -219,14 +193,13 @@ module _ (p : RankedProblem) (sound : SoundProblem p) (first : ℕ → ℕ → O
                   legal = fl.legal;
                   final = staged su ∙ fl.whole;
                   landings = us;
-                  earliest_is =
-                      tight_earliest p sound first opens u tu;
+                  earliest_is = tight_earliest p sound first opens u tu;
                   low = w.0;
                   cheap = w.1;
                 } in
                 subst (λ l. NoGreaterOrder l os) qs_is
                 (f.1 os (subst (λ l. OrderWithinBudget first (next_from p) cost (Legal p.rules) node
-                (λ z. stage z ≡ n) Low budget l) o_is gu));
+                (λ z. stage z ≡ n) Low budget l) (sym (in_order_sorted p u sound bu.feasible os ou)) gu));
           },
           e,
         )

@@ -5,7 +5,7 @@ use Rattle.std.proofs.Common.{refl, sym, ap, subst, ◌∙◌}
 use Rattle.std.proofs.lemmas.Bool.{cases_order}
 use Rattle.cps_theory.specs.Separation.{Landing}
 use Rattle.cps_theory.specs.Retiming.{IsFirstOpen}
-use Rattle.cps_theory.specs.LandingTrail.{latest_landing, pair_of, ranks}
+use Rattle.cps_theory.specs.LandingTrail.{latest_landing, pair_of}
 use Rattle.cps_theory.specs.Labels.{NeverCheaper, NoWorse, Pair}
 use Rattle.cps_theory.specs.LegalPrefix.{Legal}
 use Rattle.cps_theory.specs.Feasible.{Feasible, RankedProblem, SoundProblem, Tight, at_seconds, earliest, next_from}
@@ -41,8 +41,8 @@ no_greater_chain [] ys zs a b = tt
 no_greater_chain (x ∷ xs) [] zs a b = absurd a
 no_greater_chain (x ∷ xs) (y ∷ ys) [] a b = absurd b
 no_greater_chain (x ∷ xs) (y ∷ ys) (z ∷ zs) (inl a) (inl b) = inl (omega arith)
-no_greater_chain (x ∷ xs) (y ∷ ys) (z ∷ zs) (inl a) (inr b) = inl (let e = b.0 in omega arith)
-no_greater_chain (x ∷ xs) (y ∷ ys) (z ∷ zs) (inr a) (inl b) = inl (let e = a.0 in omega arith)
+no_greater_chain (x ∷ xs) (y ∷ ys) (z ∷ zs) (inl a) (inr b) = inl (omega arith)
+no_greater_chain (x ∷ xs) (y ∷ ys) (z ∷ zs) (inr a) (inl b) = inl (omega arith)
 no_greater_chain (x ∷ xs) (y ∷ ys) (z ∷ zs) (inr a) (inr b) = inr (a.0 ∙ b.0, no_greater_chain xs ys zs a.1 b.1)
 
 module _ (p : RankedProblem) (sound : SoundProblem p) (first : ℕ → ℕ → Option ℕ)
@@ -55,13 +55,12 @@ module _ (p : RankedProblem) (sound : SoundProblem p) (first : ℕ → ℕ → O
     pub landings_are : earliest first (next_from p) rs ≡ Some landings
 
   decide_lands : (rs : List ℕ) → Decided (LandsEarliest rs)
-  decide_lands rs = with_decided (decide_legal p.rules sound.ranked rs)
-      (λ l. by l (earliest first (next_from p) rs) refl) (λ h. h.legal)
+  decide_lands rs = with_decided (decide_legal _ sound.ranked rs) (λ l. by l _ refl) (λ h. h.legal)
     where
       by : Legal p.rules rs → (o : Option (List Landing)) → earliest first (next_from p) rs ≡ o
           → Decided (LandsEarliest rs)
       by l (Some zs) e = inl (record { legal = l; landings = zs; landings_are = e })
-      by l None e = inr (λ h. absurd (let x : None ≡ Some h.landings = sym e ∙ h.landings_are in cc))
+      by l None e = inr (λ h. absurd (cc))
 
   -- what its earliest landings are worth
   abbrev worth_of : Option (List Landing) → ℕ
@@ -78,10 +77,9 @@ module _ (p : RankedProblem) (sound : SoundProblem p) (first : ℕ → ℕ → O
   before_total : (rs os : List ℕ) → Before rs os ⊎ Before os rs
   unfolding Before
   before_total rs os = elim (cases_order (worth rs) (worth os)) [
-    | inl e ↦ elim (no_greater_total (onto rs []) (onto os [])) [
+    | inl e ↦ elim (no_greater_total _ _) [
       | inl a ↦ inl (inr (e, a))
-      | inr b ↦
-          inr (inr (sym e, b))
+      | inr b ↦ inr (inr (sym e, b))
     ]
     | inr (inl lt) ↦ inl (inl lt)
     | inr (inr gt) ↦ inr (inl gt)
@@ -90,10 +88,9 @@ module _ (p : RankedProblem) (sound : SoundProblem p) (first : ℕ → ℕ → O
   before_chain : (rs os qs : List ℕ) → Before rs os → Before os qs → Before rs qs
   unfolding Before
   before_chain rs os qs (inl a) (inl b) = inl (omega arith)
-  before_chain rs os qs (inl a) (inr b) = inl (let e = b.0 in omega arith)
-  before_chain rs os qs (inr a) (inl b) = inl (let e = a.0 in omega arith)
-  before_chain rs os qs (inr a) (inr b) =
-      inr (a.0 ∙ b.0, no_greater_chain (onto rs []) (onto os []) (onto qs []) a.1 b.1)
+  before_chain rs os qs (inl a) (inr b) = inl (omega arith)
+  before_chain rs os qs (inr a) (inl b) = inl (omega arith)
+  before_chain rs os qs (inr a) (inr b) = inr (a.0 ∙ b.0, no_greater_chain _ _ _ a.1 b.1)
 
   -- the order of a feasible map lands at its earliest seconds, which are worth no more
   record Ordered (t : ℕ → ℕ) : Type 0 where
@@ -114,25 +111,21 @@ module _ (p : RankedProblem) (sound : SoundProblem p) (first : ℕ → ℕ → O
   feasible_ordered t f =
       let rs = sorted t p.rules.count in
       let l = feasible_lands p t sound f in
-      let e = earliest_least (λ r u. p.is_open r u ≡ true) first (next_from p) opens (next_later p)
-      (at_seconds t rs) l.landed in
-      let is : earliest first (next_from p) rs ≡ Some e.0 =
-      ap (earliest first (next_from p)) (sym (ranks_at t rs)) ∙ e.1 in
+      let e = earliest_least _ _ _ opens (next_later p) _ l.landed in
+      let is = ap (earliest first (next_from p)) (sym (ranks_at t rs)) ∙ e.1 in
       let le = mono (pair_of cost e.0) (pair_of cost (at_seconds t rs))
-      (no_later_latest e.0 (at_seconds t rs) e.2, no_later_cost cost dearer e.0 (at_seconds t rs) e.2) in
+      (no_later_latest e.0 _ e.2, no_later_cost _ dearer e.0 _ e.2) in
       record {
         lands = record { legal = l.legal; landings = e.0; landings_are = is };
-        cheap = let a : worth rs ≡ value (pair_of cost e.0) = ap worth_of is in let b =
-            ap value (pair_all p cost sound t rs l) in omega arith;
+        cheap = let a = ap worth_of is in let b = ap value (pair_all p cost sound t rs l) in omega arith;
       }
 
   -- the value of a tight map is what its order is worth
   tight_worth : (t : ℕ → ℕ) → Tight p t → worth (sorted t p.rules.count) ≡ value (second_and_cost cost p.rules.count t)
   unfolding worth
   tight_worth t tight =
-      let rs = sorted t p.rules.count in
-      ap worth_of (tight_earliest p sound first opens t tight)
-      ∙ ap value (pair_all p cost sound t rs (feasible_lands p t sound tight.feasible))
+      ap worth_of (tight_earliest p sound _ opens t tight)
+      ∙ ap value (pair_all p _ sound t _ (feasible_lands p t sound tight.feasible))
 
   -- the earliest landings of the first of the cheapest orders
   built : LeastEnd p.rules.count LandsEarliest decide_lands Before before_total before_chain p.rules.count (λ rs. rs)
@@ -143,13 +136,13 @@ module _ (p : RankedProblem) (sound : SoundProblem p) (first : ℕ → ℕ → O
       let rs = a.end in
       let zs = a.holds.landings in
       let is = a.holds.landings_are in
-      let lands = earliest_lands (λ r u. p.is_open r u ≡ true) first (next_from p) opens rs zs is in
-      let legal : Legal p.rules (ranks zs) = subst (Legal p.rules) (sym lands.1) a.holds.legal in
-      let whole : length (ranks zs) ≡ n = ap length lands.1 ∙ a.ranks.long in
-      let et = earliest_tight p sound first opens zs legal whole (ap (earliest first (next_from p)) lands.1 ∙ is) in
-      let tf = landing_trail_feasible p cost sound zs legal lands.0 whole in
+      let lands = earliest_lands _ _ (next_from p) opens rs zs is in
+      let legal = subst (Legal p.rules) (sym lands.1) a.holds.legal in
+      let whole = ap length lands.1 ∙ a.ranks.long in
+      let et = earliest_tight p sound _ opens zs legal whole (cc) in
+      let tf = landing_trail_feasible p _ sound zs legal lands.0 whole in
       let u = second_in zs in
-      let worth_is : worth rs ≡ value (second_and_cost cost n u) = ap worth_of is ∙ ap value tf.1 in (
+      let worth_is = ap worth_of is ∙ ap value tf.1 in (
         u,
         record {
           best = record {
@@ -157,19 +150,15 @@ module _ (p : RankedProblem) (sound : SoundProblem p) (first : ℕ → ℕ → O
             least = λ v fv.
                 let o = feasible_ordered v fv in
                 let b = a.least (sorted v n) (sorted_ranks v) o.lands in
-                let c = o.cheap in
-                elim b [ inl lt ↦ omega arith | inr e ↦ (let d = e.0 in omega arith) ];
+                elim b [ inl lt ↦ omega arith | inr e ↦ (omega arith) ];
           };
           tight = et.0;
           least = λ v bv tv qs os oq ov.
-              let o = feasible_ordered v bv.feasible in
-              let b = a.least (sorted v n) (sorted_ranks v) o.lands in
+              let b = a.least (sorted v n) (sorted_ranks v) (feasible_ordered v bv.feasible).lands in
               let w = tight_worth v tv in
-              let c = bv.least u tf.0 in
-              let q_is : onto rs [] ≡ qs =
+              let q_is =
               ap (λ l. onto l []) (sym (in_order_sorted p u sound tf.0 qs oq ∙ et.1 ∙ lands.1)) ∙ onto_twice qs [] in
-              let o_is : onto (sorted v n) [] ≡ os =
-              ap (λ l. onto l []) (sym (in_order_sorted p v sound bv.feasible os ov)) ∙ onto_twice os [] in
+              let o_is = ap (λ l. onto l []) (sym (in_order_sorted p v sound bv.feasible os ov)) ∙ onto_twice os [] in
               elim b [
                 | inl lt ↦ absurd (omega arith)
                 | inr e ↦ subst (λ l. NoGreaterOrder l os) q_is (subst (λ l. NoGreaterOrder (onto rs []) l) o_is e.1)
@@ -181,7 +170,7 @@ module _ (p : RankedProblem) (sound : SoundProblem p) (first : ℕ → ℕ → O
   pub first_best_exists : (t : ℕ → ℕ) → Feasible p t → (u : ℕ → ℕ)
       × FirstBest p (λ v. value (second_and_cost cost p.rules.count v)) u
   first_best_exists t f = elim
-      (least_end p.rules.count LandsEarliest decide_lands Before before_total before_chain p.rules.count (λ rs. rs)) [
+      (least_end p.rules.count _ decide_lands _ before_total before_chain _ _) [
         | inl a ↦ built a
         | inr none ↦ absurd (none (sorted t p.rules.count) (sorted_ranks t) (feasible_ordered t f).lands)
       ]

@@ -24,8 +24,8 @@ module _ (p : RankedProblem) (sound : SoundProblem p) (first : ℕ → ℕ → O
       → Landed (λ r u. p.is_open r u ≡ true) (next_from p) xs → (latest_landing xs).1 ≤ v → AllLow (λ t. t ≤ v) xs
   landed_low v [] l d le = tt
   landed_low v (x ∷ []) l d le = (le, tt)
-  landed_low v (x ∷ (zero, u) ∷ xs) l d le = absurd (let a = l.1.0.fits.from_one in omega arith)
-  landed_low v (x ∷ (suc q, u) ∷ xs) l d le = (le, landed_low v ((suc q, u) ∷ xs) l.1 d.2 (let a = d.1 in omega arith))
+  landed_low v (x ∷ (zero, u) ∷ xs) l d le = absurd (omega arith)
+  landed_low v (x ∷ (suc q, u) ∷ xs) l d le = (le, landed_low v ((suc q, u) ∷ xs) l.1 d.2 (omega arith))
 
   pub low_last : (v : ℕ) (xs : List Landing) → AllLow (λ t. nat_le t v ≡ true) xs → (latest_landing xs).1 ≤ v
   low_last v [] a = zero-le
@@ -33,7 +33,7 @@ module _ (p : RankedProblem) (sound : SoundProblem p) (first : ℕ → ℕ → O
 
   pub no_cost : (xs : List Landing) → cost_of (λ r t. 0) xs ≡ 0
   no_cost [] = refl
-  no_cost (x ∷ xs) = let a = no_cost xs in omega arith
+  no_cost (x ∷ xs) = omega (arith, no_cost xs)
 
   pub all_low : (xs : List Landing) → AllLow (λ t. ◌≡◌ {A = Bool} true true) xs
   all_low [] = tt
@@ -53,10 +53,9 @@ module _ (p : RankedProblem) (sound : SoundProblem p) (first : ℕ → ℕ → O
         → FirstBest p (λ u. (second_and_cost (λ x t. 0) p.rules.count u).0) (second_in zs)
         × (earliest first (next_from p) (ranks zs) ≡ Some zs)
     built_first_makespan kept least zs legal whole built =
-        built_first p sound first opens (λ x u. 0)
-        (record { mono = λ r t u le. zero-le }) W node stage staged Permitted push newest net
-        (λ t. nat_le t v ≡ true) (λ t u le h. le-leb t v (le_trans le (leb-true u v h))) Keeps kept 0 (λ q. q.0) v
-        (λ xs l d w le. (low_true v xs (landed_low v xs l d le), let a = no_cost xs in omega arith))
+        built_first p sound _ opens _ (omega arith) W _ _ staged _ _ _ net
+        _ (λ t u le h. le-leb t v (le_trans le (leb-true u v h))) _ kept 0 (λ q. q.0) v
+        (λ xs l d w le. (low_true v xs (landed_low v xs l d le), omega (arith, no_cost xs)))
         (λ xs l d w a c. low_last v xs a) least zs legal whole built
 
     -- for the delay no second is too late, and the landings cost at most what the value leaves them
@@ -71,6 +70,5 @@ module _ (p : RankedProblem) (sound : SoundProblem p) (first : ℕ → ℕ → O
         → FirstBest p (λ u. base + (second_and_cost cost p.rules.count u).1) (second_in zs)
         × (earliest first (next_from p) (ranks zs) ≡ Some zs)
     built_first_delay cost dearer base budget e kept least zs legal whole built =
-        built_first p sound first opens cost dearer W node stage staged Permitted push newest net
-        (λ t. ◌≡◌ {A = Bool} true true) (λ t u le h. refl) Keeps kept budget (λ q. base + q.1) v
+        built_first p sound _ opens _ dearer W _ _ staged _ _ _ net _ (λ t u le h. refl) _ kept _ (λ q. base + q.1) v
         (λ xs l d w le. (all_low xs, omega arith)) (λ xs l d w a c. omega arith) least zs legal whole built

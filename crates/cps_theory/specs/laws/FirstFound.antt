@@ -10,12 +10,12 @@ pub none_from : (test : ℕ → Bool) (x m : ℕ) → ((y : ℕ) → x ≤ y →
     → first_from test x m ≡ None
 none_from test x zero h = refl
 none_from test x (suc m) h =
-    rw (h x (omega arith) (omega arith)) (none_from test (suc x) m (λ y le lt. h y (omega arith) (omega arith)))
+    rw (h x (omega arith) (omega arith)) (none_from _ _ m (λ y le lt. h y (omega arith) (omega arith)))
 
 -- and nothing passes where nothing is found
 pub from_none : (test : ℕ → Bool) (x m : ℕ) → first_from test x m ≡ None → (y : ℕ) → x ≤ y → y < x + m → test y ≡ false
 from_none test x zero e y le lt = absurd (omega arith)
-from_none test x (suc m) e y le lt = go (test x) refl e (λ f l. from_none test (suc x) m f y l (omega arith))
+from_none test x (suc m) e y le lt = go _ refl e (λ f l. from_none test _ m f y l (omega arith))
   where
     go : (b : Bool) → test x ≡ b → cond b (Some x) (first_from test (suc x) m) ≡ None
         → (first_from test (suc x) m ≡ None → suc x ≤ y → test y ≡ false) → test y ≡ false
@@ -27,7 +27,7 @@ from_none test x (suc m) e y le lt = go (test x) refl e (λ f l. from_none test 
 passes : {S : Type 0} (test : S → Bool) (n : ℕ) (s : S) (ss : List S) → element_from test n (s ∷ ss) ≡ None
     → (test s ≡ false) × (element_from test (n + 1) ss ≡ None)
 unfolding element_from
-passes test n s ss e = go (test s) refl e
+passes test n s ss e = go _ refl e
   where
     go : (b : Bool) → test s ≡ b → cond b (Some n) (element_from test (n + 1) ss) ≡ None
         → (test s ≡ false) × (element_from test (n + 1) ss ≡ None)
@@ -38,8 +38,8 @@ passes test n s ss e = go (test s) refl e
 pub each_fails : {S : Type 0} (test : S → Bool) (n : ℕ) (ss : List S) → element_from test n ss ≡ None
     → (i : ℕ) (d : S) → i < length ss → test (get_or ss i d) ≡ false
 each_fails test n [] e i d lt = absurd (omega arith)
-each_fails test n (s ∷ ss) e zero d lt = (passes test n s ss e).0
-each_fails test n (s ∷ ss) e (suc i) d lt = each_fails test (n + 1) ss (passes test n s ss e).1 i d (omega arith)
+each_fails test n (s ∷ ss) e zero d lt = (passes _ n s ss e).0
+each_fails test n (s ∷ ss) e (suc i) d lt = each_fails _ (n + 1) ss (passes _ n s ss e).1 i d (omega arith)
 
 -- ---- of two searches
 

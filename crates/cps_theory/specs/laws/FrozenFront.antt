@@ -1,5 +1,5 @@
 -- The ranks of a placed order differ, and few of greater rank land before a flight.
-use Rattle.std.proofs.Common.{ℕ, ◌+◌, ◌≤◌, List, [], ◌∷◌, length, ltb, leb, max, nat_lt, ◌&&◌, arith}
+use Rattle.std.proofs.Common.{ℕ, ◌+◌, ◌≤◌, List, [], ◌∷◌, length, ltb, max, nat_lt, arith}
 use Rattle.std.proofs.lemmas.Bool.{and_from, le-leb}
 use Rattle.cps_theory.specs.RankLists.{Distinct, above}
 use Rattle.cps_theory.specs.LegalPrefix.{EachFits, OrderRules}
@@ -14,8 +14,6 @@ each_fits_distinct g (r ∷ rs) p = (p.0.is_new, each_fits_distinct g rs p.1)
 pub few_above : (g : OrderRules) (rs : List ℕ) (r : ℕ) → EachFits g rs → above r rs + r ≤ max r (length rs + g.most)
 few_above g rs r p =
     let one = count_is (λ x. nat_lt r x) rs in
-    let same = count_weaker (λ x. ltb r x) (λ x. ltb r x && leb x (length rs + g.most)) rs
-    (λ x i q. and_from (ltb r x) (leb x (length rs + g.most)) q
-    (le-leb x (length rs + g.most) (in_below g x rs p i))) in
+    let same = count_weaker _ _ rs (λ x i q. and_from (ltb r x) _ q (le-leb x _ (in_below g x rs p i))) in
     let b = count_between r (length rs + g.most) rs (each_fits_distinct g rs p) in
     omega arith

@@ -1,6 +1,6 @@
 -- All flights keep the separation exactly where the frozen ones do, the waiting ones do, and each waiting one does
 -- after the last frozen one.
-use Rattle.std.proofs.Common.{ℕ, ◌+◌, ◌<◌, ◌≤◌, ◌⊎◌, inl, inr, List, ◌++◌, arith, sym, ap, subst}
+use Rattle.std.proofs.Common.{ℕ, ◌+◌, ◌<◌, ◌≤◌, ◌⊎◌, inl, inr, List, ◌++◌, arith, ap}
 use Rattle.std.proofs.lemmas.Bool.{cases_eq}
 use Rattle.cps_theory.specs.RankLists.{In}
 use Rattle.cps_theory.specs.NumberedSituation.{AllSeparated}
@@ -12,24 +12,21 @@ module _ (s : ℕ → ℕ → ℕ) (triangle : (a b c : ℕ) → s a c ≤ s a b
     → In f frozen → t f < h) (behind : (g : ℕ) → In g waiting → h ≤ t g) where
   pub joined_apart : AllSeparated s t frozen → AllSeparated s t waiting → ((g : ℕ) → In g waiting → t x + s x g ≤ t g)
       → AllSeparated s t (frozen ++ waiting)
-  joined_apart af aw start f g i j ne le = go (in_append f frozen waiting i) (in_append g frozen waiting j)
+  joined_apart af aw start f g i j ne le = go (in_append f _ _ i) (in_append g _ _ j)
     where
       go : In f frozen ⊎ In f waiting → In g frozen ⊎ In g waiting → t f + s f g ≤ t g
       go (inl a) (inl b) = af f g a b ne le
       go (inr a) (inr b) = aw f g a b ne le
-      go (inr a) (inl b) = absurd (let p = before g b in let q = behind f a in omega arith)
+      go (inr a) (inl b) = absurd (omega arith)
       go (inl a) (inr b) = elim (cases_eq f x) [
-        | inl e ↦ subst (λ z. t z + s z g ≤ t g) (sym e) (start g b)
-        | inr nx ↦ let p = af f x a there nx (latest f a) in let q = start g b in let r = triangle f x g in omega arith
+        | inl e ↦ rw e (start g b)
+        | inr nx ↦ omega (arith, triangle f x g)
       ]
 
   pub apart_parts : AllSeparated s t (frozen ++ waiting) → AllSeparated s t waiting
       × ((g : ℕ) → In g waiting → t x + s x g ≤ t g)
   apart_parts a = (
-    λ f g i j. a f g (append_in f frozen waiting (inr i)) (append_in g frozen waiting (inr j)),
-    λ g i.
-        let p = before x there in
-        let q = behind g i in
-        a x g (append_in x frozen waiting (inl there)) (append_in g frozen waiting (inr i)) (λ e. let r =
+    λ f g i j. a f g (append_in f _ _ (inr i)) (append_in g _ _ (inr j)),
+    λ g i. a x g (append_in x _ _ (inl there)) (append_in g _ _ (inr i)) (λ e. let r =
         ap t e in omega arith) (omega arith),
   )

@@ -1,7 +1,7 @@
 -- Early prefixes stay legal, and land at the same seconds, where two problems agree on the low ranks; stages that do
 -- not count.
-use Rattle.std.proofs.Common.{◌≡◌, ℕ, ◌+◌, ◌-◌, ◌<◌, ◌≤◌, false, leb, ltb, inl, inr, List, [], ◌∷◌, length, arith}
-use Rattle.std.proofs.Common.{refl, ap, ap₂, subst}
+use Rattle.std.proofs.Common.{◌≡◌, ℕ, ◌+◌, ◌<◌, ◌≤◌, false, inl, inr, List, [], ◌∷◌, length, arith}
+use Rattle.std.proofs.Common.{refl, ap, ap₂}
 use Rattle.std.specs.List.{AllByRecursion}
 use Rattle.std.proofs.lemmas.Bool.{cases_lt, leb-false, ltb-false, or_parts}
 use Rattle.cps_theory.specs.RankLists.{In}
@@ -15,11 +15,11 @@ use Rattle.cps_theory.specs.laws.LegalPrefix.{legal_each_fits}
 pub low_ranks : (g : OrderRules) (d : ℕ) (rs : List ℕ) → EachFits g rs → length rs + g.most < d
     → AllByRecursion (λ r. r < d) rs
 low_ranks g d [] p lt = tt
-low_ranks g d (r ∷ rs) p lt = (let a = p.0.not_early in omega arith, low_ranks g d rs p.1 (omega arith))
+low_ranks g d (r ∷ rs) p lt = (omega arith, low_ranks g d rs p.1 (omega arith))
 
 in_low : (d x : ℕ) (rs : List ℕ) → AllByRecursion (λ r. r < d) rs → In x rs → x < d
 in_low d x [] a i = absurd i
-in_low d x (r ∷ rs) a (inl e) = let b = a.0 in omega arith
+in_low d x (r ∷ rs) a (inl e) = omega arith
 in_low d x (r ∷ rs) a (inr i) = in_low d x rs a.1 i
 
 -- agreement up to d carries the legal prefixes of fewer than d - k places over
@@ -28,21 +28,19 @@ pub agree_legal : (d : ℕ) (g g' : OrderRules) → AgreeBelow d g g' → (rs : 
 agree_legal d g g' agree [] l lt = tt
 agree_legal d g g' agree (r ∷ rs) l lt =
     let f = l.0.fits in
-    let low : r < d = let a = f.not_early in omega arith in
-    let before = low_ranks g d rs (legal_each_fits g rs l.1) (omega arith) in
-    let most = agree.same_most in
-    let back = agree.same_back r low in (
+    let low : r < d = omega arith in (
       record {
         fits = record {
           from_one = f.from_one;
-          to_count = let a = agree.there in omega arith;
+          to_count = omega (arith, agree.there);
           is_new = f.is_new;
-          not_early = let a = f.not_early in omega arith;
+          not_early = omega (arith, f.not_early);
           not_late = let a = f.not_late in omega arith;
           after = λ a b. elim (cases_lt a d) [
             | inl a_low ↦ f.after a (agree.same_before a r a_low low b)
             | inr high ↦ let h = agree.same_above a r high low b in absurd (let i =
-                in_low d h.0 rs before (f.after h.0 h.2) in let j = h.1 in omega arith)
+                in_low d h.0 rs (low_ranks g d rs (legal_each_fits g rs l.1) (omega arith)) (f.after h.0 h.2) in omega
+                arith)
           ];
         };
         due = λ x one e. l.0.due x one (omega arith);
@@ -57,11 +55,10 @@ pub agree_landed : (d : ℕ) (Open Open' : ℕ → ℕ → Type 0) (after after'
     × (pair_of cost xs ≡ pair_of cost' xs)
 agree_landed d Open Open' after after' cost cost' same pos [] low l = (tt, refl)
 agree_landed d Open Open' after after' cost cost' same pos (x ∷ xs) low l =
-    let rest = agree_landed d Open Open' after after' cost cost' same pos xs low.1 l.2 in
+    let rest = agree_landed d _ _ _ _ _ _ same pos xs low.1 l.2 in
     let e = same.same_after (latest_landing xs).0 (latest_landing xs).1 x.0 (last_low xs low.1) low.0 in (
-      (same.same_open x.0 x.1 low.0 l.0, subst (λ t. t ≤ x.1) e l.1, rest.0),
-      ap (λ c. (x.1, c))
-          (ap₂ ◌+◌ (ap (λ p. p.1) rest.1) (same.same_cost x.0 x.1 low.0)),
+      (same.same_open x.0 x.1 low.0 l.0, rw e at l.1, rest.0),
+      ap (λ c. (x.1, c)) (ap₂ ◌+◌ (ap (λ p. p.1) rest.1) (same.same_cost x.0 x.1 low.0)),
     )
   where
     last_low : (ys : List Landing) → AllByRecursion (λ r. r < d) (ranks ys) → (latest_landing ys).0 < d
@@ -71,5 +68,5 @@ agree_landed d Open Open' after after' cost cost' same pos (x ∷ xs) low l =
 -- a stage that does not count was held, and lies below d - k
 pub uncounted : (d k m p : ℕ) → counts d k m p ≡ false → (p + k < d) × (p ≤ m)
 uncounted d k m p e =
-    let o = or_parts (leb (d - k) p) (ltb m p) e in
-    (let a = leb-false (d - k) p o.0 in omega arith, ltb-false m p o.1)
+    let o = or_parts _ _ e in
+    (omega (arith, leb-false _ p o.0), ltb-false m p o.1)

@@ -4,7 +4,7 @@ use Rattle.std.proofs.Common.{◌≡◌, ℕ, ◌+◌, ◌≤◌, List, [], ◌�
 use Rattle.std.proofs.Common.{le_trans, le_refl, add-le-add}
 use Rattle.cps_theory.specs.Separation.{Landing}
 use Rattle.cps_theory.specs.Retiming.{IsFirstOpen, NeverEarlier}
-use Rattle.cps_theory.specs.LandingTrail.{Landed, cost_of, last_rank, latest_landing, pair_of, ranks}
+use Rattle.cps_theory.specs.LandingTrail.{Landed, last_rank, latest_landing, pair_of, ranks}
 use Rattle.cps_theory.specs.Labels.{NeverCheaper, NoWorse, Pair, next_pair}
 use Rattle.cps_theory.specs.LegalPrefix.{Legal}
 use Rattle.cps_theory.specs.ClosedSets.{ClosedPairs}
@@ -25,7 +25,7 @@ module _ (Open : ℕ → ℕ → Type 0) (first : ℕ → ℕ → Option ℕ) (a
   next_covers l a b r t le open' at =
       let f = opens.least r (after l a.0 r) t open' (le_trans (later.mono l a.0 b.0 r le.0) at) in (
         (f.0, a.1 + cost r f.0),
-        ap (option_map (λ t. (t, a.1 + cost r t))) f.1,
+        ap (option_map _) f.1,
         (f.2, add-le-add le.1 (dearer.mono r f.0 t f.2)),
       )
 
@@ -34,9 +34,7 @@ module _ (Open : ℕ → ℕ → Type 0) (first : ℕ → ℕ → Option ℕ) (a
       → next_pair first after cost (last_rank (ranks xs)) (pair_of cost xs) r ≡ Some p
       → (Landed Open after ((r, p.0) ∷ xs)) × (pair_of cost ((r, p.0) ∷ xs) ≡ p)
   next_lands xs r p l e =
-      let e' = subst (λ k. next_pair first after cost k (pair_of cost xs) r ≡ Some p) (last_ranks xs) e in
-      let m = mapped (λ t. (t, cost_of cost xs + cost r t))
-      (first r (after (latest_landing xs).0 (latest_landing xs).1 r)) p e' in
+      let m = mapped _ _ p (rw (last_ranks xs) at e) in
       let found = opens.found r (after (latest_landing xs).0 (latest_landing xs).1 r) m.0 m.1 in
       subst (λ x. (Landed Open after ((r, x.0) ∷ xs)) × (pair_of cost ((r, x.0) ∷ xs) ≡ x)) m.2
       ((found.0, found.1, l), refl)
@@ -47,8 +45,8 @@ module _ (Open : ℕ → ℕ → Type 0) (first : ℕ → ℕ → Option ℕ) (a
       → Legal (ranks xs) → Landed Open after xs → (p : Pair) × Listed (ranks xs) p × NoWorse p (pair_of cost xs)
   closed_covers Legal shorter Listed closed [] legal l = ((0, 0), closed.start, (le_refl 0, le_refl 0))
   closed_covers Legal shorter Listed closed (x ∷ xs) legal l =
-      let before = closed_covers Legal shorter Listed closed xs (shorter x.0 (ranks xs) legal) l.2 in
-      let c = next_covers (latest_landing xs).0 before.0 (pair_of cost xs) x.0 x.1 before.2 l.0 l.1 in
+      let before = closed_covers _ shorter _ closed xs (shorter x.0 (ranks xs) legal) l.2 in
+      let c = next_covers _ _ _ x.0 x.1 before.2 l.0 l.1 in
       let e = ap (λ k. next_pair first after cost k before.0 x.0) (last_ranks xs) ∙ c.1 in
       let s = closed.step x.0 (ranks xs) legal before.0 c.0 before.1 e in
-      (s.0, s.1, no_worse_trans s.0 c.0 (pair_of cost (x ∷ xs)) s.2 c.2)
+      (s.0, s.1, no_worse_trans s.0 c.0 _ s.2 c.2)

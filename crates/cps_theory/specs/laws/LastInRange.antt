@@ -1,6 +1,6 @@
 -- What `find` from the back of a range gives: std says it of a run of calls.
-use Rattle.std.proofs.Common.{◌≡◌, ℕ, ◌+◌, ◌-◌, ◌<◌, ◌≤◌, Bool, true, false, [], Option, Some, None, Bor, refl, sym}
-use Rattle.std.proofs.Common.{ap, subst, ◌∙◌, arith}
+use Rattle.std.proofs.Common.{◌≡◌, ℕ, ◌+◌, ◌-◌, ◌<◌, ◌≤◌, Bool, false, [], Option, Some, None, Bor, refl, sym}
+use Rattle.std.proofs.Common.{ap, ◌∙◌, arith}
 use Rattle.std.specs.Prelude.{◌↔◌, IsTrue, IfSome, IsSomeAnd, MatchOption, unwrap_or}
 use Rattle.std.specs.declared.ops.RangeInclusive.{RangeInclusive}
 use Rattle.std.specs.declared.iter.Rev.{Rev}
@@ -27,11 +27,10 @@ module _ {s : RangeInclusive ℕ} {t : Rev (RangeInclusive ℕ)} (first last : �
       let long = same.0 in
       let listed = inclusive_listed_back run run.seen in
       let start = listed.2 ∙ ap range_inclusive_start behind.1 ∙ begins in
-      let end : listed.1 ≡ last + 1 = listed.3 ∙ ap (λ r. range_inclusive_end r + 1) behind.1 ∙ ap (λ n. n + 1) ends in
-      let down = listed.4 (ap range_inclusive_exhausted behind.1 ∙ fresh) in
-      let few = down.0.0 in (
-        omega (arith, long, few, start, end),
-        λ whole. (let all = down.0.1 (behind.2.1 ∙ whole) in omega (arith, long, all, start, end)),
+      let end = listed.3 ∙ ap (λ r. range_inclusive_end r + 1) behind.1 ∙ ap (λ n. n + 1) ends in
+      let down = listed.4 (cc) in (
+        omega (arith, long, down.0.0, start, end),
+        λ whole. (omega (arith, long, down.0.1 (cc), start, end)),
         λ k low high.
             let place : listed.1 - 1 - k ≡ last - k = omega (arith, end) in
             ap (option_map (λ y. y)) (sym (same.2 (last - k))) ∙ ap (λ j. option_map (λ y. y) (run.at j)) (sym place)
@@ -44,11 +43,10 @@ module _ {F : Type 0} {g : Mut F (Bor ℕ × Unit {0}) Bool} (P : ℕ → Type 0
   stays x b q called = (calls x.0 b q called).0
 
   answers : (x : ℕ) (b : Bool) → CalledAt g f x b f → IsTrue b ↔ P x
-  answers x b at = subst (λ y. IsTrue b ↔ P y) at.shows (calls at.shown b f at.called).1
+  answers x b at = rw at.shows at (calls at.shown b f at.called).1
 
   fails_at : (x : ℕ) (o : Option ℕ) → option_map (λ y. y) o ≡ Some x → IfSome o (λ y. CalledAt g f y false f) → P x → ⊥
-  fails_at x (Some y) is called p =
-      false≢true ((answers y false called).1 (subst P (sym (ap (λ o. unwrap_or o x) is)) p))
+  fails_at x (Some y) is called p = false≢true ((answers y _ called).1 (rw (ap (λ o. unwrap_or o x) is) p))
   fails_at x None is called p = absurd (cc)
 
   some_is : (o : Option ℕ) → IsSomeAnd o (λ y. CalledAt g f y false f) → IfSome o (λ y. CalledAt g f y false f)
@@ -64,24 +62,22 @@ module _ {F : Type 0} {g : Mut F (Bor ℕ × Unit {0}) Bool} (P : ℕ → Type 0
       → MatchOption r ((k : ℕ) → first ≤ k → k ≤ last → P k → ⊥) (λ n. (first ≤ n) × (n ≤ last)
       × P n × ((k : ℕ) → n < k → k ≤ last → P k → ⊥))
   last_in_range first last begins ends fresh keeps None (u, at, told) = λ k low high.
-      let down = counts_down first last begins ends fresh keeps u at in
-      let long = down.1 told.0 in
-      fails_at k (u.at (last - k)) (down.2 k high (omega (arith, long, low))) (told.1 stays (last - k))
+      let down = counts_down _ _ begins ends fresh keeps u at in
+      fails_at k _ (down.2 k high (omega (arith, down.1 told.0, low))) (told.1 stays (last - k))
   last_in_range first last begins ends fresh keeps (Some n) (u, at, told) =
-      let down = counts_down first last begins ends fresh keeps u at in
+      let down = counts_down _ _ begins ends fresh keeps u at in
       let most = down.0 in
       let place = told.0 in
       let long = told.1 in
       let passed = told.3 stays in
       let back : last - (last - place) ≡ place = omega (arith, most, long) in
-      let here : option_map (λ y. y) (u.at place) ≡ Some (last - place) = ap (λ j. option_map (λ y. y) (u.at j))
+      let here = ap (λ j. option_map (λ y. y) (u.at j))
       (sym back) ∙ down.2 (last - place) (omega arith) (omega (arith, most, long)) in
-      let number : n ≡ last - place = ap (λ o. unwrap_or o n) (ap (option_map (λ y. y)) (sym told.2) ∙ here) in (
+      let number = ap (λ o. unwrap_or o n) (ap (option_map (λ y. y)) (sym told.2) ∙ here) in (
         omega (arith, number, most, long),
         omega (arith, number),
-        (answers n true passed.0).0 refl,
+        (answers n _ passed.0).0 refl,
         λ k above high.
             let earlier : last - k < place = omega (arith, number, above, high, most, long) in
-            fails_at k (u.at (last - k)) (down.2 k high (omega (arith, earlier, long, high)))
-            (some_is (u.at (last - k)) (passed.1 (last - k) earlier)),
+            fails_at k _ (down.2 k high (omega (arith, earlier, long, high))) (some_is _ (passed.1 (last - k) earlier)),
       )

@@ -45,22 +45,18 @@ module _ (W : Type 0) (Open : ℕ → ℕ → Type 0) (first : ℕ → ℕ → O
     can_end_within_good r t xs l d a c =
         let zs : List Landing = (r, t) ∷ xs in
         let done = (kept (ranks xs) r l).completes c.0 c.1 in
-        let f = continued_whole W Open first after cost Legal node Permitted push newest opens
-        later dearer net Final closed Low lower zs done.rest l d a
-        (follows_mono W Open first after cost Legal node Permitted push newest opens later
-        dearer net Final closed Low lower (node (ranks zs)) t c.0.0 done.rest c.2 done.follows) in
+        let f = continued_whole W _ _ _ _ _ _ _ _ _ opens later dearer net Final closed Low lower zs _ l d a
+        (follows_mono W _ _ _ _ _ _ _ _ _ opens later dearer net _ closed Low lower _ t _ done.rest c.2 done.follows) in
         let ws = onto done.rest zs in
-        let e = earliest_least Open first after opens later ws f.1 in
-        let same = ranks_onto done.rest zs in (
+        let e = earliest_least _ _ _ opens later ws f.1 in (
           ranks done.rest,
-          subst Good same (record {
+          subst Good (ranks_onto done.rest zs) (record {
             legal = f.0;
             final = f.2;
             landings = e.0;
             earliest_is = e.1;
             low = no_later_low Low lower e.0 ws e.2 f.3;
-            cheap = let m = no_later_cost cost dearer e.0 ws e.2 in let k = f.4 in let b =
-                c.3 in let i = done.cost_is in omega arith;
+            cheap = omega (arith, no_later_cost cost dearer e.0 ws e.2);
           }),
         )
 
@@ -70,21 +66,20 @@ module _ (W : Type 0) (Open : ℕ → ℕ → Type 0) (first : ℕ → ℕ → O
         → (t : ℕ) × Choose (node rs) ((latest_landing xs).1, cost_of cost xs) r t × Legal (r ∷ rs)
         × (earliest first after (r ∷ rs) ≡ Some ((r, t) ∷ xs)) × AllLow Low ((r, t) ∷ xs)
     good_choice rs xs e r qs g =
-        let w = earliest_front first after qs (r ∷ rs) g.landings g.earliest_is in
+        let w = earliest_front first after qs _ _ g.earliest_is in
         let h = earliest_head first after r rs w.0 w.2 in
         let t = h.1 in
         let ys = w.1 in
-        let same : h.0 ≡ xs = some_same h.0 xs (sym h.2 ∙ e) in
-        let head : w.0 ≡ (r, t) ∷ xs = h.4 ∙ ap (λ zs. (r, t) ∷ zs) same in
-        let whole : g.landings ≡ onto ys ((r, t) ∷ xs) = w.3 ∙ ap (onto ys) head in
-        let lands = earliest_lands Open first after opens (onto qs (r ∷ rs)) g.landings g.earliest_is in
-        let landed : Landed Open after (onto ys ((r, t) ∷ xs)) = subst (Landed Open after) whole lands.0 in
-        let ordered : ranks (onto ys ((r, t) ∷ xs)) ≡ onto qs (r ∷ rs) = ap ranks (sym whole) ∙ lands.1 in
-        let ranked : ranks xs ≡ rs = (earliest_lands Open first after opens rs xs e).1 in
-        let f = whole_continued W Open first after cost Legal node Permitted push newest opens
-        later dearer net Final closed Low lower ((r, t) ∷ xs) ys (subst Legal (sym ordered) g.legal) landed
-        (subst (λ l. Final (node l)) (sym ordered) g.final) (subst (AllLow Low) whole g.low) in
-        let legal : Legal (r ∷ rs) = subst (λ l. Legal (r ∷ l)) ranked f.0 in
+        let same = some_same h.0 xs (sym h.2 ∙ e) in
+        let head = h.4 ∙ ap (λ zs. (r, t) ∷ zs) same in
+        let whole = w.3 ∙ ap (onto ys) head in
+        let lands = earliest_lands _ _ after opens _ _ g.earliest_is in
+        let landed = rw whole at lands.0 in
+        let ordered = ap ranks (sym whole) ∙ lands.1 in
+        let ranked : ranks xs ≡ rs = (earliest_lands _ _ after opens rs xs e).1 in
+        let f = whole_continued W _ _ _ _ _ _ _ _ _ opens
+        later dearer net _ closed Low lower _ ys (rw ordered g.legal) landed (rw ordered g.final) (rw whole at g.low) in
+        let legal = rw ranked at f.0 in
         let shorter = net.shrinks r rs legal in
         let done : Complete (node (r ∷ ranks xs)) (t, cost_of cost ys) = record {
           opened = subst (λ k. Open k t) (sym (net.newest_is (r ∷ ranks xs) f.0)) f.1.0;
@@ -95,20 +90,20 @@ module _ (W : Type 0) (Open : ℕ → ℕ → Type 0) (first : ℕ → ℕ → O
           cost_is = refl;
         } in
         let o = (kept (ranks xs) r f.0).covers (t, cost_of cost ys) done in
-        let here : node (r ∷ ranks xs) ≡ push (node rs) r = ap (λ l. node (r ∷ l)) ranked ∙ net.pushes r rs shorter.0 in
-        let newest_xs : newest (node rs) ≡ (latest_landing xs).0 = ap (λ l. newest (node l)) (sym ranked)
-        ∙ newest_last W Open first after cost Legal node Permitted push newest opens later
-        dearer net Final closed Low lower xs (subst Legal (sym ranked) shorter.0) in
-        let first_xs : first r (after (latest_landing xs).0 (latest_landing xs).1 r) ≡ Some t =
-        subst (λ (zs : List Landing). first r (after (latest_landing zs).0 (latest_landing zs).1 r) ≡ Some t)
-        same h.3 in
-        let total : cost_of cost g.landings ≡ cost_of cost ((r, t) ∷ xs) + cost_of cost ys =
-        ap (cost_of cost) whole ∙ cost_onto cost ys ((r, t) ∷ xs) in (
+        let newest_xs = ap (λ l. newest (node l)) (sym ranked) ∙ newest_last W _ _ _ _ _ _ _ _ _ opens later
+        dearer net Final closed Low lower xs (rw ranked shorter.0) in
+        let total =
+        ap (cost_of cost) whole ∙ cost_onto _ ys _ in (
           t,
           record {
             permitted = shorter.1;
-            found = ap (λ k. first r (after k (latest_landing xs).1 r)) newest_xs ∙ first_xs;
-            can_end = (o.0, subst (λ v. Keeps v o.0) here o.1, o.2.0, let a = o.2.1 in let b = g.cheap in omega arith);
+            found = ap (λ k. first r (after k (latest_landing xs).1 r)) newest_xs ∙ (rw same at h.3);
+            can_end = (
+              o.0,
+              subst (λ v. Keeps v o.0) (ap (λ l. node (r ∷ l)) ranked ∙ net.pushes r rs shorter.0) o.1,
+              o.2.0,
+              omega arith,
+            );
           },
           legal,
           w.2 ∙ ap Some head,
@@ -122,15 +117,16 @@ module _ (W : Type 0) (Open : ℕ → ℕ → Type 0) (first : ℕ → ℕ → O
         × (cost_of cost ((r, t) ∷ xs) ≤ budget)
     choice_more rs xs l e r t c =
         let legal = net.grows r rs l c.permitted in
-        let ranked : ranks xs ≡ rs = (earliest_lands Open first after opens rs xs e).1 in
-        let newest_xs : newest (node rs) ≡ (latest_landing xs).0 = ap (λ k. newest (node k)) (sym ranked)
-        ∙ newest_last W Open first after cost Legal node Permitted push newest opens later
-        dearer net Final closed Low lower xs (subst Legal (sym ranked) l) in
-        let f : first r (after (latest_landing xs).0 (latest_landing xs).1 r) ≡ Some t =
-        ap (λ k. first r (after k (latest_landing xs).1 r)) (sym newest_xs) ∙ c.found in
-        let o = c.can_end in
-        let done = (kept rs r legal).completes o.0 (subst (λ v. Keeps v o.0) (sym (net.pushes r rs l)) o.1) in
-        (legal, earliest_more first after r t rs xs e f, lower t o.0.0 o.2 done.low, (let a = o.3 in omega arith))
+        let ranked : ranks xs ≡ rs = (earliest_lands _ _ after opens rs xs e).1 in
+        let newest_xs = ap (λ k. newest (node k)) (sym ranked) ∙ newest_last W _ _ _ _ _ _ _ _ _ opens later
+        dearer net Final closed Low lower xs (rw ranked l) in
+        let f = ap (λ k. first r (after k (latest_landing xs).1 r)) (sym newest_xs) ∙ c.found in
+        let o = c.can_end in (
+          legal,
+          earliest_more first after r t rs xs e f,
+          lower t o.0.0 o.2 ((kept rs r legal).completes o.0 (rw (net.pushes r rs l) o.1)).low,
+          (omega arith),
+        )
 
     -- the order built of least choices is good
     pub least_choices_good : (qs rs : List ℕ) (xs : List Landing) → Legal rs → earliest first after rs ≡ Some xs
@@ -140,8 +136,7 @@ module _ (W : Type 0) (Open : ℕ → ℕ → Type 0) (first : ℕ → ℕ → O
         record { legal = l; final = g; landings = xs; earliest_is = e; low = a; cheap = c }
     least_choices_good (r ∷ qs) rs xs l e a c g =
         let m = choice_more rs xs l e r g.0 g.1 in
-        least_choices_good qs (r ∷ rs) ((r, g.0) ∷ xs) m.0 m.1 (m.2, a) m.3
-        (subst (λ w. LeastFrom w (g.0, cost_of cost xs + cost r g.0) qs) (sym (net.pushes r rs l)) g.3)
+        least_choices_good qs _ _ m.0 m.1 (m.2, a) m.3 (rw (net.pushes r rs l) g.3)
 
     -- and no good order with this front is less
     pub least_choices_least : (qs rs : List ℕ) (xs : List Landing) → Legal rs → earliest first after rs ≡ Some xs
@@ -157,12 +152,7 @@ module _ (W : Type 0) (Open : ℕ → ℕ → Type 0) (first : ℕ → ℕ → O
           | inr ge ↦
               let same : o ≡ r = omega arith in
               let m = choice_more rs xs l e r g.0 g.1 in
-              inr (
-                sym same,
-                least_choices_least qs (r ∷ rs) ((r, g.0) ∷ xs) m.0 m.1
-                    (subst (λ w. LeastFrom w (g.0, cost_of cost xs + cost r g.0) qs) (sym (net.pushes r rs l)) g.3) os
-                    (subst (λ x. Good (onto os (x ∷ rs))) same good),
-              )
+              inr (sym same, least_choices_least qs _ _ m.0 m.1 (rw (net.pushes r rs l) g.3) os (rw same at good))
         ]
 
     -- a loop that tries the ranks in turn finds a choice where a good order goes on
@@ -178,8 +168,8 @@ module _ (W : Type 0) (Open : ℕ → ℕ → Type 0) (first : ℕ → ℕ → O
         → (qs : List ℕ) × Good (onto qs (r ∷ rs))
     choice_goes_on rs xs l e a r t c =
         let m = choice_more rs xs l e r t c in
-        let lands = earliest_lands Open first after opens (r ∷ rs) ((r, t) ∷ xs) m.1 in
-        let g = can_end_within_good r t xs (subst Legal (sym lands.1) m.0) lands.0 (m.2, a) (let o = c.can_end in
+        let lands = earliest_lands _ _ after opens _ _ m.1 in
+        let g = can_end_within_good r t xs (rw lands.1 m.0) lands.0 (m.2, a) (let o = c.can_end in
         (o.0, subst (λ v. Keeps v o.0) (sym (net.pushes r rs l) ∙ ap node (sym lands.1)) o.1, o.2, o.3)) in
         (g.0, subst (λ zs. Good (onto g.0 zs)) lands.1 g.1)
 

@@ -2,7 +2,7 @@
 use Rattle.std.proofs.Common.{◌≡◌, ℕ, zero, suc, ◌≤◌, inl, List, [], ◌∷◌, length, Option, true, cond, arith, refl, sym}
 use Rattle.std.proofs.Common.{ap, ap₂, subst, ◌∙◌, le_refl, le_antisymm}
 use Rattle.std.proofs.lemmas.Bool.{eq-eqb, ne_eqb}
-use Rattle.cps_theory.specs.RankLists.{Distinct, In}
+use Rattle.cps_theory.specs.RankLists.{Distinct}
 use Rattle.cps_theory.specs.Separation.{Landing}
 use Rattle.cps_theory.specs.Retiming.{IsFirstOpen, NeverEarlier}
 use Rattle.cps_theory.specs.LandingTrail.{Landed, latest_landing, pair_of, ranks}
@@ -25,29 +25,27 @@ pub next_later : (p : RankedProblem) → NeverEarlier (next_from p)
 next_later p = record { mono = mono }
   where
     mono : (l t u r : ℕ) → t ≤ u → next_from p l t r ≤ next_from p l u r
-    mono zero t u r le = le_refl (p.start r)
+    mono zero t u r le = le_refl _
     mono (suc l) t u r le = omega arith
 
 pub at_second_in : (xs : List Landing) → Distinct (ranks xs) → at_seconds (second_in xs) (ranks xs) ≡ xs
 at_second_in [] d = refl
 at_second_in (x ∷ xs) d =
-    let here : second_in (x ∷ xs) x.0 ≡ x.1 = ap (λ b. cond b x.1 (second_in xs x.0)) (eq-eqb x.0 x.0 refl) in
-    let rest = at_seconds_agree (second_in (x ∷ xs)) (second_in xs) (ranks xs)
-    (λ r i. ap (λ b. cond b x.1 (second_in xs r)) (ne_eqb r x.0 (λ e. d.0 (subst (λ y. In y (ranks xs)) e i)))) in
-    ap₂ (λ u ys. (x.0, u) ∷ ys) here (rest ∙ at_second_in xs d.1)
+    let rest = at_seconds_agree _ (second_in xs) (ranks xs)
+    (λ r i. ap (λ b. cond b x.1 (second_in xs r)) (ne_eqb r x.0 (λ e. d.0 (rw e at i)))) in
+    ap₂ (λ u ys. (x.0, u) ∷ ys) (ap (λ b. cond b x.1 (second_in xs x.0)) (eq-eqb x.0 x.0 refl))
+    (rest ∙ at_second_in xs d.1)
 
 module _ (p : RankedProblem) (cost : ℕ → ℕ → ℕ) (sound : SoundProblem p) where
   -- the pair of a whole order is that of the map
   pub pair_all : (t : ℕ → ℕ) (rs : List ℕ) → LandsAllRanks p t rs
       → pair_of cost (at_seconds t rs) ≡ second_and_cost cost p.rules.count t
-  pair_all t rs l = ap₂ (λ a b. (a, b))
-      (le_antisymm (low rs l) (greatest_least t p.rules.count (latest_landing (at_seconds t rs)).1
-      (last_greatest p t sound rs l))) (cost_all p t sound cost rs l)
+  pair_all t rs l = ap₂ (λ a b. (a, b)) (le_antisymm (low rs l) (greatest_least t _ _
+      (last_greatest p t sound rs l))) (cost_all p t sound _ rs l)
     where
       low : (rs : List ℕ) → LandsAllRanks p t rs → (latest_landing (at_seconds t rs)).1 ≤ greatest t p.rules.count
       low [] l = omega arith
-      low (r ∷ rs) l = at_most_greatest t p.rules.count r
-          (in_from_one p.rules r (r ∷ rs) (legal_each_fits p.rules (r ∷ rs) l.legal) (inl refl))
+      low (r ∷ rs) l = at_most_greatest t _ r (in_from_one _ r (r ∷ rs) (legal_each_fits _ (r ∷ rs) l.legal) (inl refl))
 
   -- feasible seconds make a landed legal order of all flights, with their pair
   pub feasible_landing_trail : (t : ℕ → ℕ) → Feasible p t → (xs : List Landing) × Legal p.rules (ranks xs)
@@ -57,10 +55,9 @@ module _ (p : RankedProblem) (cost : ℕ → ℕ → ℕ) (sound : SoundProblem 
       let rs = sorted t p.rules.count in
       let l = feasible_lands p t sound f in (
         at_seconds t rs,
-        subst (Legal p.rules) (sym (ranks_at t rs)) l.legal,
+        rw (ranks_at t rs) l.legal,
         l.landed,
-        ap length (ranks_at t rs)
-            ∙ l.whole,
+        ap length (ranks_at t rs) ∙ l.whole,
         pair_all t rs l,
       )
 
@@ -69,18 +66,13 @@ module _ (p : RankedProblem) (cost : ℕ → ℕ → ℕ) (sound : SoundProblem 
       → Landed (λ r u. p.is_open r u ≡ true) (next_from p) xs → length (ranks xs) ≡ p.rules.count
       → Feasible p (second_in xs) × (pair_of cost xs ≡ second_and_cost cost p.rules.count (second_in xs))
   landing_trail_feasible xs legal landed whole =
-      let e = at_second_in xs (each_fits_distinct p.rules (ranks xs) (legal_each_fits p.rules (ranks xs) legal)) in
+      let e = at_second_in xs (each_fits_distinct _ _ (legal_each_fits _ _ legal)) in
       let l : LandsAllRanks p (second_in xs) (ranks xs) =
       record {
         legal = legal;
         whole = whole;
-        landed =
-            subst (Landed (λ r u. p.is_open r u ≡ true) (next_from p)) (sym e) landed;
-      } in (
-        lands_feasible p (second_in xs) sound (ranks xs) l,
-        ap (pair_of cost) (sym e)
-            ∙ pair_all (second_in xs) (ranks xs) l,
-      )
+        landed = subst (Landed (λ r u. p.is_open r u ≡ true) (next_from p)) (sym e) landed;
+      } in (lands_feasible p _ sound _ l, ap (pair_of cost) (sym e) ∙ pair_all _ _ l)
 
   module _ (value : Pair → ℕ) (mono : (a b : Pair) → NoWorse a b → value a ≤ value b) where
     -- the checker: what holds for a closed certificate holds for every feasible map
@@ -95,12 +87,11 @@ module _ (p : RankedProblem) (cost : ℕ → ℕ → ℕ) (sound : SoundProblem 
           → Lists w q → v ≤ value q) → (t : ℕ → ℕ) → Feasible p t → v ≤ value (second_and_cost cost p.rules.count t)
       closed_certificate_optimal v final t f =
           let x = feasible_landing_trail t f in
-          subst (λ q. v ≤ value q) x.4 (closed_landings_optimal (λ r u. p.is_open r u ≡ true) first
-          (next_from p) cost opens (next_later p) dearer p.rules ones Lists c value mono v final x.0 x.1 x.2 x.3)
+          rw x.4 at (closed_landings_optimal _ _
+          _ _ opens (next_later p) dearer _ ones _ c _ mono v final x.0 x.1 x.2 x.3)
 
       pub closed_certificate_infeasible : ((w : PatternNode) (q : Pair) → w.0 ≡ p.rules.count → Lists w q → ⊥)
           → (t : ℕ → ℕ) → Feasible p t → ⊥
       closed_certificate_infeasible none t f =
           let x = feasible_landing_trail t f in
-          closed_landings_infeasible (λ r u. p.is_open r u ≡ true) first (next_from p) cost opens
-          (next_later p) dearer p.rules ones Lists c none x.0 x.1 x.2 x.3
+          closed_landings_infeasible _ _ _ _ opens (next_later p) dearer _ ones _ c none x.0 x.1 x.2 x.3

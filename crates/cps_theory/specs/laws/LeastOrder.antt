@@ -40,13 +40,12 @@ module _ (n : ℕ) (P : List ℕ → Type 0) (decide : (xs : List ℕ) → Decid
   NoneUpTo m j build = (y : ℕ) (ys : List ℕ) → y ≤ j → AreRanks (suc m) n (y ∷ ys) → P (build (y ∷ ys)) → ⊥
 
   tail_ranks : (m y : ℕ) (ys : List ℕ) → AreRanks (suc m) n (y ∷ ys) → AreRanks m n ys
-  tail_ranks m y ys r = record { long = let a = r.long in omega arith; ranked = λ x i. r.ranked x (inr i) }
+  tail_ranks m y ys r = record { long = omega arith; ranked = λ x i. r.ranked x (inr i) }
 
   more_ranks : (m y : ℕ) (ys : List ℕ) → IsRank n y → AreRanks m n ys → AreRanks (suc m) n (y ∷ ys)
   more_ranks m y ys q r = record {
-    long = let a = r.long in omega arith;
-    ranked =
-        λ x i. elim i [ inl e ↦ subst (IsRank n) (sym e) q | inr k ↦ r.ranked x k ];
+    long = omega arith;
+    ranked = λ x i. elim i [ inl e ↦ subst (IsRank n) (sym e) q | inr k ↦ r.ranked x k ];
   }
 
   head_cases : (j y : ℕ) → y ≤ suc j → (y ≤ j) ⊎ (y ≡ suc j)
@@ -57,7 +56,7 @@ module _ (n : ℕ) (P : List ℕ → Type 0) (decide : (xs : List ℕ) → Decid
       → LeastUpTo m (suc j) build ⊎ NoneUpTo m (suc j) build
   one_more m j build lt (inr none) (inr none') = inr (λ y ys le r h. elim (head_cases j y le) [
     | inl low ↦ none y ys low r h
-    | inr e ↦ none' ys (tail_ranks m y ys r) (subst (λ z. P (build (z ∷ ys))) e h)
+    | inr e ↦ none' ys (tail_ranks m y ys r) (rw e at h)
   ])
   one_more m j build lt (inl a) (inr none') = inl (record {
     head = a.head;
@@ -110,20 +109,20 @@ module _ (n : ℕ) (P : List ℕ → Type 0) (decide : (xs : List ℕ) → Decid
   heads : (m j : ℕ) (build : List ℕ → List ℕ) → j ≤ n
       → ((i : ℕ) → LeastEnd m (λ xs. build (suc i ∷ xs)) ⊎ NoEnd m (λ xs. build (suc i ∷ xs)))
       → LeastUpTo m j build ⊎ NoneUpTo m j build
-  heads m zero build le ends = inr (λ y ys low r h. let a = (r.ranked y (inl refl)).0 in omega arith)
-  heads m (suc j) build le ends = one_more m j build (omega arith) (heads m j build (omega arith) ends) (ends j)
+  heads m zero build le ends = inr (λ y ys low r h. omega (arith, (r.ranked y (inl refl)).0))
+  heads m (suc j) build le ends = one_more m j _ (omega arith) (heads m j _ (omega arith) ends) (ends j)
 
   whole : (m : ℕ) (build : List ℕ → List ℕ) → LeastUpTo m n build ⊎ NoneUpTo m n build
       → LeastEnd (suc m) build ⊎ NoEnd (suc m) build
   whole m build (inl a) = inl (record { end = a.head ∷ a.tail; ranks = a.ranks; holds = a.holds; least = least })
     where
       least : (ys : List ℕ) → AreRanks (suc m) n ys → P (build ys) → Before (build (a.head ∷ a.tail)) (build ys)
-      least [] r h = absurd (let e = r.long in omega arith)
+      least [] r h = absurd (omega arith)
       least (y ∷ ys) r h = a.least y ys (r.ranked y (inl refl)).1 r h
   whole m build (inr none) = inr never
     where
       never : (ys : List ℕ) → AreRanks (suc m) n ys → P (build ys) → ⊥
-      never [] r h = let e = r.long in omega arith
+      never [] r h = omega arith
       never (y ∷ ys) r h = none y ys (r.ranked y (inl refl)).1 r h
 
   itself : (xs : List ℕ) → Before xs xs
@@ -139,14 +138,14 @@ module _ (n : ℕ) (P : List ℕ → Type 0) (decide : (xs : List ℕ) → Decid
   })
     where
       least : (ys : List ℕ) → AreRanks 0 n ys → P (build ys) → Before (build []) (build ys)
-      least [] r q = itself (build [])
-      least (y ∷ ys) r q = absurd (let e = r.long in omega arith)
+      least [] r q = itself _
+      least (y ∷ ys) r q = absurd (omega arith)
   empty build (inr h) = inr never
     where
       never : (ys : List ℕ) → AreRanks 0 n ys → P (build ys) → ⊥
       never [] r q = h q
-      never (y ∷ ys) r q = let e = r.long in omega arith
+      never (y ∷ ys) r q = omega arith
 
   pub least_end : (m : ℕ) (build : List ℕ → List ℕ) → LeastEnd m build ⊎ NoEnd m build
-  least_end zero build = empty build (decide (build []))
-  least_end (suc m) build = whole m build (heads m n build (le_refl n) (λ i. least_end m (λ xs. build (suc i ∷ xs))))
+  least_end zero build = empty _ (decide (build []))
+  least_end (suc m) build = whole m _ (heads m n _ (le_refl n) (λ i. least_end m _))

@@ -1,5 +1,5 @@
 -- A window and its stage tell what is placed, and a prefix is legal as a whole exactly where it is step by step.
-use Rattle.std.proofs.Common.{ℕ, suc, ◌+◌, ◌≤◌, ◌↔◌, inl, inr, List, [], ◌∷◌, length, arith}
+use Rattle.std.proofs.Common.{ℕ, ◌+◌, ◌≤◌, ◌↔◌, inl, inr, List, [], ◌∷◌, length, arith}
 use Rattle.std.proofs.lemmas.Bool.{cases_eq}
 use Rattle.cps_theory.specs.RankLists.{In}
 use Rattle.cps_theory.specs.LegalPrefix.{EachFits, IsLegalPrefix, Legal, NoneDue, OrderRules}
@@ -13,7 +13,7 @@ module _ (g : OrderRules) where
 
   pub in_from_one : (x : ℕ) (rs : List ℕ) → EachFits g rs → In x rs → (1 ≤ x) × (x ≤ g.count)
   in_from_one x [] p i = absurd i
-  in_from_one x (r ∷ rs) p (inl e) = let a = p.0.from_one in let b = p.0.to_count in omega arith
+  in_from_one x (r ∷ rs) p (inl e) = omega arith
   in_from_one x (r ∷ rs) p (inr i) = in_from_one x rs p.1 i
 
   -- step by step is the same as by the whole
@@ -22,12 +22,11 @@ module _ (g : OrderRules) where
   legal_each_fits (r ∷ rs) l = (l.0.fits, legal_each_fits rs l.1)
 
   pub legal_none_due : (rs : List ℕ) → Legal g rs → NoneDue g rs
-  legal_none_due [] l = λ x one le. absurd (omega arith)
+  legal_none_due [] l = omega arith
   legal_none_due (r ∷ rs) l =
-      λ x one le. elim (cases_eq (x + g.most) (suc (length rs))) [
+      λ x one le. elim (cases_eq _ _) [
         | inl e ↦ l.0.due x one e
-        | inr ne ↦
-            inr (legal_none_due rs l.1 x one (omega arith))
+        | inr ne ↦ inr (legal_none_due rs l.1 x one (omega arith))
       ]
 
   pub prefix_legal : ((r : ℕ) → g.back r ≤ g.most) → (rs : List ℕ) → IsLegalPrefix g rs → Legal g rs
@@ -39,7 +38,7 @@ module _ (g : OrderRules) where
   )
     where
       before : (x : ℕ) → x + g.most ≤ length rs → In x (r ∷ rs) → In x rs
-      before x le (inl e) = absurd (let a = p.placed.0.not_late in let b = low r in omega arith)
+      before x le (inl e) = absurd (omega arith)
       before x le (inr i) = i
 
   pub legal_is_prefix : ((r : ℕ) → g.back r ≤ g.most) → (rs : List ℕ) → Legal g rs ↔ IsLegalPrefix g rs

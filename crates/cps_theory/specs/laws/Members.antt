@@ -1,7 +1,7 @@
 -- What is in a list: behind an append, after a filter, in the middle.
-use Rattle.std.proofs.Common.{ℕ, ◌⊎◌, inl, inr, List, [], ◌∷◌, ◌++◌, sym, ap, ◌≡◌, filter, cond, Bool, true, false}
+use Rattle.std.proofs.Common.{ℕ, ◌⊎◌, inl, inr, List, [], ◌∷◌, ◌++◌, ap, ◌≡◌, filter, cond, Bool, true, false}
 use Rattle.std.proofs.Common.{refl, ◌∙◌}
-use Rattle.std.proofs.lemmas.Bool.{cases_eq, false≢true}
+use Rattle.std.proofs.lemmas.Bool.{cases_eq}
 use Rattle.cps_theory.specs.RankLists.{Distinct, In}
 
 pub in_append : (x : ℕ) (xs ys : List ℕ) → In x (xs ++ ys) → In x xs ⊎ In x ys
@@ -18,7 +18,7 @@ append_in x (y ∷ xs) ys (inr i) = inr (append_in x xs ys (inr i))
 
 pub in_filter : (q : ℕ → Bool) (y : ℕ) (xs : List ℕ) → In y (filter q xs) → In y xs × (q y ≡ true)
 in_filter q y [] i = absurd i
-in_filter q y (x ∷ xs) i = go (q x) refl i (in_filter q y xs)
+in_filter q y (x ∷ xs) i = go _ refl i (in_filter q y xs)
   where
     go : (b : Bool) → q x ≡ b → In y (cond b (x ∷ filter q xs) (filter q xs))
         → (In y (filter q xs) → In y xs × (q y ≡ true)) → ((y ≡ x) ⊎ In y xs) × (q y ≡ true)
@@ -28,7 +28,7 @@ in_filter q y (x ∷ xs) i = go (q x) refl i (in_filter q y xs)
 
 pub distinct_filter : (q : ℕ → Bool) (xs : List ℕ) → Distinct xs → Distinct (filter q xs)
 distinct_filter q [] d = tt
-distinct_filter q (x ∷ xs) d = go (q x) (distinct_filter q xs d.1)
+distinct_filter q (x ∷ xs) d = go _ (distinct_filter q xs d.1)
   where
     go : (b : Bool) → Distinct (filter q xs) → Distinct (cond b (x ∷ filter q xs) (filter q xs))
     go true ih = (λ i. d.0 (in_filter q x xs i).0, ih)
@@ -36,13 +36,13 @@ distinct_filter q (x ∷ xs) d = go (q x) (distinct_filter q xs d.1)
 
 pub filter_in : (q : ℕ → Bool) (y : ℕ) (xs : List ℕ) → In y xs → q y ≡ true → In y (filter q xs)
 filter_in q y [] i e = absurd i
-filter_in q y (x ∷ xs) i e = go (q x) refl i (λ j. filter_in q y xs j e)
+filter_in q y (x ∷ xs) i e = go _ refl i (λ j. filter_in q y xs j e)
   where
     go : (b : Bool) → q x ≡ b → (y ≡ x) ⊎ In y xs → (In y xs → In y (filter q xs))
         → In y (cond b (x ∷ filter q xs) (filter q xs))
     go true f (inl s) ih = inl s
     go true f (inr j) ih = inr (ih j)
-    go false f (inl s) ih = absurd (false≢true (sym f ∙ ap q (sym s) ∙ e))
+    go false f (inl s) ih = cc
     go false f (inr j) ih = ih j
 
 pub in_middle : (r : ℕ) (front rs : List ℕ) → In r (front ++ r ∷ rs)

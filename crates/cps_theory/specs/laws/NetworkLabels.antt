@@ -4,7 +4,7 @@ use Rattle.std.proofs.Common.{◌≡◌, ℕ, ◌+◌, ◌≤◌, List, [], ◌�
 use Rattle.std.proofs.Common.{le_antisymm, ap₂, ◌⊎◌, inl, inr}
 use Rattle.cps_theory.specs.Separation.{Landing}
 use Rattle.cps_theory.specs.Retiming.{IsFirstOpen, NeverEarlier}
-use Rattle.cps_theory.specs.LandingTrail.{Landed, cost_of, last_rank, latest_landing, pair_of, ranks}
+use Rattle.cps_theory.specs.LandingTrail.{Landed, cost_of, pair_of, ranks}
 use Rattle.cps_theory.specs.Labels.{NeverCheaper, NoWorse, Pair, next_pair}
 use Rattle.cps_theory.specs.Network.{Attained, Kept, Network, Undominated}
 use Rattle.cps_theory.specs.laws.LabelDominance.{next_covers, next_lands, no_worse_trans, last_ranks}
@@ -17,15 +17,13 @@ kept_undominated Attains Keeps k anti p kept = record {
   best = λ q a le.
       let c = k.covers q a in
       let e = anti c.0 p c.1 kept (no_worse_trans c.0 q p c.2 le) in
-      let first : p.0 ≤ q.0 = subst (λ x. x.0 ≤ q.0) e c.2.0 in
-      let second : p.1 ≤ q.1 = subst (λ x. x.1 ≤ q.1) e c.2.1 in
-      ap₂ (λ x y. (x, y)) (le_antisymm le.0 first) (le_antisymm le.1 second);
+      ap₂ (λ x y. (x, y)) (le_antisymm le.0 (subst (λ x. x.0 ≤ q.0) e c.2.0))
+      (le_antisymm le.1 (subst (λ x. x.1 ≤ q.1) e c.2.1));
 }
 
 pub undominated_kept : (Attains Keeps : Pair → Type 0) → Kept Attains Keeps → (p : Pair) → Undominated Attains p
     → Keeps p
-undominated_kept Attains Keeps k p u = let c =
-    k.covers p u.attained in subst Keeps (u.best c.0 (k.attained c.0 c.1) c.2) c.1
+undominated_kept Attains Keeps k p u = let c = k.covers p u.attained in rw (u.best c.0 (k.attained c.0 c.1) c.2) at c.1
 
 module _ (W : Type 0) (Open : ℕ → ℕ → Type 0) (first : ℕ → ℕ → Option ℕ) (after : ℕ → ℕ → ℕ
     → ℕ) (cost : ℕ → ℕ → ℕ) (Legal : List ℕ → Type 0) (node : List ℕ → W) (Permitted : W → ℕ
@@ -39,10 +37,8 @@ module _ (W : Type 0) (Open : ℕ → ℕ → Type 0) (first : ℕ → ℕ → O
       → next_pair first after cost (newest w) p r ≡ Some q → Attains (push w r) q
   attained_next w p r q a permitted e =
       let xs = a.landings in
-      let l : newest w ≡ last_rank (ranks xs) = ap newest (sym a.at) ∙ net.newest_is (ranks xs) a.legal in
-      let e' : next_pair first after cost (last_rank (ranks xs)) (pair_of cost xs) r ≡ Some q =
-      ap₂ (λ k x. next_pair first after cost k x r) (sym l) a.is ∙ e in
-      let n = next_lands Open first after cost opens later dearer xs r q a.landed e' in
+      let l = ap newest (sym a.at) ∙ net.newest_is (ranks xs) a.legal in
+      let n = next_lands _ _ _ _ opens later dearer xs r q a.landed (cc) in
       record {
         landings = (r, q.0) ∷ xs;
         legal = net.grows r (ranks xs) a.legal (subst (λ x. Permitted x r) (sym a.at) permitted);
@@ -55,7 +51,7 @@ module _ (W : Type 0) (Open : ℕ → ℕ → Type 0) (first : ℕ → ℕ → O
   pub attained_source : (w' : W) (q : Pair) → Attains w' q → ((node [] ≡ w') × ((0, 0) ≡ q))
       ⊎ ((w : W) × (r : ℕ) × (p : Pair) × Attains w p × Permitted w r × (push w r ≡ w') × Open r q.0
       × (after (newest w) p.0 r ≤ q.0) × (p.1 + cost r q.0 ≡ q.1))
-  attained_source w' q a = go a.landings a.legal a.landed a.at a.is
+  attained_source w' q a = go _ a.legal a.landed a.at a.is
     where
       go : (xs : List Landing) → Legal (ranks xs) → Landed Open after xs → node (ranks xs) ≡ w'
           → pair_of cost xs ≡ q → ((node [] ≡ w') × ((0, 0) ≡ q))
@@ -64,8 +60,7 @@ module _ (W : Type 0) (Open : ℕ → ℕ → Type 0) (first : ℕ → ℕ → O
       go [] legal landed at is = inl (at, is)
       go (x ∷ xs) legal landed at is =
           let s = net.shrinks x.0 (ranks xs) legal in
-          let e : x.1 ≡ q.0 = ap (λ p. p.0) is in
-          let l : newest (node (ranks xs)) ≡ (latest_landing xs).0 = net.newest_is (ranks xs) s.0 ∙ last_ranks xs in
+          let e = ap (λ p. p.0) is in
           inr (
             node (ranks xs),
             x.0,
@@ -73,9 +68,8 @@ module _ (W : Type 0) (Open : ℕ → ℕ → Type 0) (first : ℕ → ℕ → O
             record { landings = xs; legal = s.0; landed = landed.2; at = refl; is = refl },
             s.1,
             sym (net.pushes x.0 (ranks xs) s.0) ∙ at,
-            subst (Open x.0) e landed.0,
-            subst (λ k. after k (latest_landing xs).1 x.0 ≤ q.0) (sym l)
-                (subst (λ t. after (latest_landing xs).0 (latest_landing xs).1 x.0 ≤ t) e landed.1),
+            rw e at landed.0,
+            rw (net.newest_is (ranks xs) s.0 ∙ last_ranks xs) (omega arith),
             ap (λ t. cost_of cost xs + cost x.0 t) (sym e) ∙ ap (λ p. p.1) is,
           )
 
@@ -98,7 +92,7 @@ module _ (W : Type 0) (Open : ℕ → ℕ → Type 0) (first : ℕ → ℕ → O
           let k = (sources z.0 z.1 z.4 z.5).covers z.2 z.3 in
           let c = next_covers Open first after cost opens later dearer (newest z.0) k.0 z.2 z.1 q.0 k.2 z.6 z.7 in
           let n = enough z.0 z.1 k.0 c.0 z.4 z.5 k.1 c.1 in
-          let le : NoWorse c.0 q = (c.2.0, omega (arith, c.2.1, z.8)) in
+          let le : NoWorse c.0 q = omega arith in
           (n.0, n.1, no_worse_trans n.0 c.0 q n.2 le)
     ];
   }

@@ -1,7 +1,7 @@
 -- The order of nodes is total, so a binary search in states in that order finds the one of a node, and what it lists is
 -- all that is listed there.
 use Rattle.std.proofs.Common.{◌≡◌, ℕ, zero, suc, ◌+◌, ◌<◌, inl, inr, Bool, true, false, ◌||◌, List, [], ◌∷◌, length}
-use Rattle.std.proofs.Common.{get_or, refl, sym, ap, ap₂, subst, ◌∙◌, arith}
+use Rattle.std.proofs.Common.{get_or, refl, sym, ap, ap₂, ◌∙◌, arith}
 use Rattle.std.specs.List.{list_any}
 use Rattle.std.specs.Ordering.{nat_cmp, bool_cmp, ordering_then, ordering_reverse, ordering_index, is_eq, is_lt}
 use Rattle.std.specs.declared.cmp.Ordering.{Ordering}
@@ -41,8 +41,7 @@ list_tie : (xs ys : List Bool) → slice_cmp bool_cmp xs ys ≡ Equal → xs ≡
 list_tie [] [] e = refl
 list_tie [] (y ∷ ys) e = absurd (cc)
 list_tie (x ∷ xs) [] e = absurd (cc)
-list_tie (x ∷ xs) (y ∷ ys) e = let t =
-    then_tie (bool_cmp x y) (slice_cmp bool_cmp xs ys) e in ap₂ ◌∷◌ (bool_tie x y t.0) (list_tie xs ys t.1)
+list_tie (x ∷ xs) (y ∷ ys) e = let t = then_tie _ _ e in ap₂ ◌∷◌ (bool_tie x y t.0) (list_tie xs ys t.1)
 
 pub eq_of : (o : Ordering) → is_eq o ≡ true → o ≡ Equal
 eq_of Less e = absurd (cc)
@@ -54,12 +53,10 @@ pack i xs m = (i, xs, m)
 
 pub node_tie : (a b : PatternNode) → node_cmp a b ≡ Equal → a ≡ b
 node_tie a b e =
-    let s = then_tie (nat_cmp a.0 b.0) _ e in
-    let t = then_tie (slice_cmp bool_cmp a.1 b.1) (nat_cmp a.2 b.2) s.1 in
-    let x = nat_tie a.0 b.0 s.0 in
-    let y = list_tie a.1 b.1 t.0 in
+    let s = then_tie _ _ e in
+    let t = then_tie _ _ s.1 in
     let z = nat_tie a.2 b.2 t.1 in
-    whole a.0 b.0 a.1 b.1 a.2 b.2 x y z
+    whole a.0 b.0 a.1 b.1 a.2 b.2 (nat_tie a.0 b.0 s.0) (list_tie a.1 b.1 t.0) z
   where
     whole : (i j : ℕ) (xs ys : List Bool) (m n : ℕ) → i ≡ j → xs ≡ ys → m ≡ n → pack i xs m ≡ pack j ys n
     whole i j xs ys m n e f h = rw (e, f, h) refl
@@ -84,29 +81,26 @@ module _ {S : Type 0} (node_of : S → PatternNode) (pairs_of : S → List Pair)
       → to_node w s ≡ Less
   before_equal s t w lt eq =
       let o = node_total in
-      let back : node_cmp (node_of t) (node_of s) ≡ Greater =
-      o.antisymm (node_of t) (node_of s) ∙ ap ordering_reverse lt in
-      let same : node_cmp (node_of t) (node_of s) ≡ node_cmp w (node_of s) = o.congr (node_of t) w (node_of s) eq in
-      o.antisymm (node_of s) w ∙ ap ordering_reverse (sym same ∙ back)
+      let same = o.congr (node_of t) w (node_of s) eq in
+      o.antisymm (node_of s) w ∙ ap ordering_reverse
+      (sym same ∙ (o.antisymm (node_of t) (node_of s) ∙ ap ordering_reverse lt))
 
   -- a state after one that is at the place is after it
   after_equal : (s t : S) (w : PatternNode) → node_cmp (node_of s) (node_of t) ≡ Less → to_node w s ≡ Equal
       → to_node w t ≡ Greater
   after_equal s t w lt eq =
       let o = node_total in
-      let same : node_cmp (node_of s) (node_of t) ≡ node_cmp w (node_of t) = o.congr (node_of s) w (node_of t) eq in
-      o.antisymm (node_of t) w ∙ ap ordering_reverse (sym same ∙ lt)
+      o.antisymm (node_of t) w ∙ ap ordering_reverse (sym (o.congr (node_of s) w (node_of t) eq) ∙ lt)
 
   adjacent : (ss : List S) → InNodeOrder node_of pairs_of ss → (k : ℕ) (d : S) → k + 1 < length ss
       → is_lt (node_cmp (node_of (get_or ss (k + 1) d)) (node_of (get_or ss k d))) ≡ false
   adjacent [] h k d lt = absurd (omega arith)
   adjacent (a ∷ []) h k d lt = absurd (omega arith)
   adjacent (a ∷ b ∷ rest) h zero d lt = ap is_lt (node_total.antisymm (node_of b) (node_of a)
-      ∙ ap ordering_reverse (less_of (node_cmp (node_of a) (node_of b)) h.0))
+      ∙ ap ordering_reverse (less_of _ h.0))
   adjacent (a ∷ b ∷ rest) h (suc k) d lt =
       let e : suc k + 1 ≡ suc (k + 1) = omega arith in
-      subst (λ (j : ℕ). is_lt (node_cmp (node_of (get_or (a ∷ b ∷ rest) j d))
-      (node_of (get_or (b ∷ rest) k d))) ≡ false) (sym e) (adjacent (b ∷ rest) h.1 k d (omega arith))
+      rw e (adjacent (b ∷ rest) h.1 k d (omega arith))
 
   pub non_decreasing : (w : PatternNode) (ss : List S) → InNodeOrder node_of pairs_of ss
       → IsNonDecreasingBy (λ s. ordering_index (to_node w s)) ss
@@ -116,9 +110,9 @@ module _ {S : Type 0} (node_of : S → PatternNode) (pairs_of : S → List Pair)
   head_below : (a : S) (rest : List S) → InNodeOrder node_of pairs_of (a ∷ rest) → (k : ℕ) (d : S)
       → k < length rest → node_cmp (node_of a) (node_of (get_or rest k d)) ≡ Less
   head_below a [] h k d lt = absurd (omega arith)
-  head_below a (b ∷ rest) h zero d lt = less_of (node_cmp (node_of a) (node_of b)) h.0
+  head_below a (b ∷ rest) h zero d lt = less_of _ h.0
   head_below a (b ∷ rest) h (suc k) d lt = node_total.trans (node_of a) (node_of b) (node_of (get_or rest k d))
-      (less_of (node_cmp (node_of a) (node_of b)) h.0) (head_below b rest h.1 k d (omega arith))
+      (less_of _ h.0) (head_below b _ h.1 k d (omega arith))
 
   -- ---- what is listed at a place
 
@@ -143,10 +137,9 @@ module _ {S : Type 0} (node_of : S → PatternNode) (pairs_of : S → List Pair)
   unfolding covers
   found_covers w q [] h i d lt e = absurd (omega arith)
   found_covers w q (s ∷ ss) h zero d lt e =
-      let rest : covers node_of pairs_of ss w q ≡ false =
-      none_covers w q ss (λ k f l. ap is_eq (after_equal s (get_or ss k f) w (head_below s ss h k f l) e)) in
-      let here : covers_at node_of pairs_of w q s ≡ list_any (λ o. no_worse o q) (pairs_of s) = rw (ap is_eq e) refl in
-      rw (rest, here) (or_false (list_any (λ o. no_worse o q) (pairs_of s)))
+      let rest = none_covers w q ss (λ k f l. ap is_eq (after_equal s _ w (head_below s ss h k f l) e)) in
+      let here : covers_at node_of pairs_of w q s ≡ list_any (λ o. no_worse o q) (pairs_of s) = cc in
+      rw (rest, here) (or_false _)
     where
       or_false : (b : Bool) → b || false ≡ b
       or_false true = refl

@@ -1,6 +1,6 @@
 -- There are at most m ^ n different lists of n numbers below m, so a stage has at most (2k + 1) ^ (2k + 1) windows.
 use Rattle.std.proofs.Common.{◌≡◌, ℕ, suc, ◌+◌, ◌*◌, ◌^◌, ◌<◌, ◌≤◌, inl, inr, List, [], ◌∷◌, length, map, arith, refl}
-use Rattle.std.proofs.Common.{sym, ap, ap₂, subst, ◌∙◌}
+use Rattle.std.proofs.Common.{sym, ap, ap₂, ◌∙◌}
 use Rattle.std.proofs.Math.Nat.{pow-succ', pow-zero}
 use Rattle.std.proofs.lemmas.Nat.{mul-add-lt}
 use Rattle.std.proofs.lemmas.Bool.{cases_order}
@@ -15,9 +15,8 @@ as_number m [] = 0
 as_number m (x ∷ xs) = as_number m xs * m + x
 
 as_number_below : (m : ℕ) (xs : List ℕ) → AllByRecursion (λ x. x < m) xs → as_number m xs < m ^ length xs
-as_number_below m [] a = let e = pow-zero m in omega (arith, e)
-as_number_below m (x ∷ xs) a = let b = mul-add-lt (as_number m xs) m x (m ^ length xs) (as_number_below m xs a.1) a.0 in
-    let e = pow-succ' m (length xs) in omega (arith, b, e)
+as_number_below m [] a = omega (arith, pow-zero m)
+as_number_below m (x ∷ xs) a = omega (arith, mul-add-lt _ m x _ (as_number_below m xs a.1) a.0, pow-succ' m (length xs))
 
 same_parts : (m a b x y : ℕ) → x < m → y < m → a * m + x ≡ b * m + y → (a ≡ b) × (x ≡ y)
 same_parts m a b x y lx ly e = elim (cases_order a b) [
@@ -32,7 +31,7 @@ as_number_same m [] [] l a b e = refl
 as_number_same m [] (y ∷ ys) l a b e = absurd (omega arith)
 as_number_same m (x ∷ xs) [] l a b e = absurd (omega arith)
 as_number_same m (x ∷ xs) (y ∷ ys) l a b e =
-    let s = same_parts m (as_number m xs) (as_number m ys) x y a.0 b.0 e in
+    let s = same_parts m _ _ x y a.0 b.0 e in
     ap₂ ◌∷◌ s.1 (as_number_same m xs ys (omega arith) a.1 b.1 s.0)
 
 numbers_differ : (m n : ℕ) (w : List ℕ) (ws : List (List ℕ)) → Sized m n w → AllByRecursion (Sized m n) ws
@@ -50,9 +49,7 @@ in_range : (m n x : ℕ) (ws : List (List ℕ)) → AllByRecursion (Sized m n) w
     → IsRank (m ^ n) x
 in_range m n x [] a i = absurd i
 in_range m n x (w ∷ ws) a (inl e) =
-    let b = as_number_below m w a.0.1 in
-    let s : m ^ length w ≡ m ^ n = ap (λ k. m ^ k) a.0.0 in
-    (omega (arith, e), omega (arith, e, b, s))
+    (omega (arith, e), omega (arith, e, as_number_below m w a.0.1, ap (λ k. m ^ k) a.0.0))
 in_range m n x (w ∷ ws) a (inr i) = in_range m n x ws a.1 i
 
 length-numbers : (m : ℕ) (ws : List (List ℕ)) → length (map (λ x. suc (as_number m x)) ws) ≡ length ws
@@ -61,6 +58,5 @@ length-numbers m (w ∷ ws) = ap suc (length-numbers m ws)
 
 pub few_lists : (m n : ℕ) (ws : List (List ℕ)) → AllByRecursion (Sized m n) ws → DistinctLists ws → length ws ≤ m ^ n
 few_lists m n ws a d =
-    let f = few_ranks (m ^ n) (map (λ x. suc (as_number m x)) ws) (distinct_numbers m n ws a d)
-    (λ x i. in_range m n x ws a i) in
-    subst (λ k. k ≤ m ^ n) (length-numbers m ws) f
+    let f = few_ranks _ _ (distinct_numbers m n ws a d) (λ x i. in_range m n x ws a i) in
+    rw (length-numbers m ws) at f

@@ -1,6 +1,6 @@
 -- Lists made from the numbers from i on: what holds in them, counts in them, and is filtered from them.
 use Rattle.std.proofs.Common.{◌≡◌, ℕ, zero, suc, ◌+◌, ◌<◌, ◌≤◌, inl, inr, Bool, true, false, cond, List, [], ◌∷◌, map}
-use Rattle.std.proofs.Common.{filter, count_by, refl, sym, ap, subst, ◌∙◌, arith}
+use Rattle.std.proofs.Common.{filter, count_by, refl, sym, ap, ◌∙◌, arith}
 use Rattle.std.specs.Prelude.{All}
 use Rattle.std.proofs.lemmas.Bool.{cases_eq}
 use Rattle.std.proofs.lemmas.List.Sums.{sum_by-cons}
@@ -9,27 +9,27 @@ use Rattle.cps_theory.specs.laws.RankCounts.{count_agree, count, count_is}
 
 pub in_numbers : (i n x : ℕ) → In x (numbers_from i n) → (i ≤ x) × (x < i + n)
 in_numbers i zero x m = absurd m
-in_numbers i (suc n) x (inl e) = (omega arith, omega arith)
-in_numbers i (suc n) x (inr m) = let a = in_numbers (suc i) n x m in (omega (arith, a.0), omega (arith, a.1))
+in_numbers i (suc n) x (inl e) = omega arith
+in_numbers i (suc n) x (inr m) = let a = in_numbers _ n x m in (omega (arith, a.0), omega (arith, a.1))
 
 pub numbers_in : (i n x : ℕ) → i ≤ x → x < i + n → In x (numbers_from i n)
 numbers_in i zero x le lt = absurd (omega arith)
 numbers_in i (suc n) x le lt =
-    elim (cases_eq x i) [ inl e ↦ inl e | inr ne ↦ inr (numbers_in (suc i) n x (omega arith) (omega arith)) ]
+    elim (cases_eq x i) [ inl e ↦ inl e | inr ne ↦ inr (numbers_in _ n x (omega arith) (omega arith)) ]
 
 pub distinct_numbers : (i n : ℕ) → Distinct (numbers_from i n)
 distinct_numbers i zero = tt
-distinct_numbers i (suc n) = (λ m. let a = in_numbers (suc i) n i m in omega (arith, a.0), distinct_numbers (suc i) n)
+distinct_numbers i (suc n) = (λ m. omega (arith, (in_numbers _ n i m).0), distinct_numbers _ n)
 
 pub map_numbers : {X : Type 0} (f : ℕ → X) (i n : ℕ)
     → map f (numbers_from (suc i) n) ≡ map (λ j. f (suc j)) (numbers_from i n)
 map_numbers f i zero = refl
-map_numbers f i (suc n) = ap (λ l. f (suc i) ∷ l) (map_numbers f (suc i) n)
+map_numbers f i (suc n) = ap (λ l. f (suc i) ∷ l) (map_numbers f _ n)
 
 pub filter_map_is : {X : Type 0} (p : X → Bool) (f : ℕ → X) (xs : List ℕ)
     → filter p (map f xs) ≡ map f (filter (λ i. p (f i)) xs)
 filter_map_is p f [] = refl
-filter_map_is p f (x ∷ xs) = go (p (f x)) (filter_map_is p f xs)
+filter_map_is p f (x ∷ xs) = go _ (filter_map_is p f xs)
   where
     go : (b : Bool) → filter p (map f xs) ≡ map f (filter (λ i. p (f i)) xs)
         → cond b (f x ∷ filter p (map f xs)) (filter p (map f xs)) ≡ map f
@@ -39,11 +39,11 @@ filter_map_is p f (x ∷ xs) = go (p (f x)) (filter_map_is p f xs)
 
 pub count_by_map : {X : Type 0} (p : X → Bool) (f : ℕ → X) (xs : List ℕ)
     → count_by p (map f xs) ≡ count_by (λ i. p (f i)) xs
-count_by_map p f xs = go xs ∙ sym (count_is (λ i. p (f i)) xs)
+count_by_map p f xs = go xs ∙ sym (count_is _ xs)
   where
     go : (xs : List ℕ) → count_by p (map f xs) ≡ count (λ i. p (f i)) xs
     go [] = refl
-    go (x ∷ xs) = sum_by-cons (λ y. cond (p y) 1 0) (f x) (map f xs) ∙ ap (λ n. cond (p (f x)) 1 0 + n) (go xs)
+    go (x ∷ xs) = sum_by-cons _ _ (map f xs) ∙ ap (λ n. cond (p (f x)) 1 0 + n) (go xs)
 
 pub count_by_agree : (p q : ℕ → Bool) (xs : List ℕ) → ((x : ℕ) → In x xs → p x ≡ q x) → count_by p xs ≡ count_by q xs
 count_by_agree p q xs h = count_is p xs ∙ count_agree p q xs h ∙ sym (count_is q xs)
@@ -55,7 +55,7 @@ map_map g f (x ∷ xs) = ap (λ l. g (f x) ∷ l) (map_map g f xs)
 -- what holds of a whole list holds at each number
 pub all_at : {X : Type 0} (P : X → Type 0) (f : ℕ → X) (xs : List ℕ) → All P (map f xs) → (i : ℕ) → In i xs → P (f i)
 all_at P f [] a i m = absurd m
-all_at P f (x ∷ xs) a i (inl e) = subst (λ j. P (f j)) (sym e) (a 0 (f x) (omega arith))
+all_at P f (x ∷ xs) a i (inl e) = rw e (a 0 (f x) (omega arith))
 all_at P f (x ∷ xs) a i (inr m) = all_at P f xs (λ k d lt. a (suc k) d (omega arith)) i m
 
 pub at_all : {X : Type 0} (P : X → Type 0) (f : ℕ → X) (xs : List ℕ) → ((i : ℕ) → In i xs → P (f i)) → All P (map f xs)

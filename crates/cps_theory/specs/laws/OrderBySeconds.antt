@@ -19,37 +19,32 @@ descends_equal t (x ∷ xs) (y ∷ ys) d e f g = ap₂ (λ z zs. z ∷ zs) same 
       | inl s ↦ s
       | inr i ↦ elim (g y (inl refl)) [
         | inl s ↦ sym s
-        | inr j ↦ absurd (let a = e.0 x i in let b =
-            d.0 y j in omega arith)
+        | inr j ↦ absurd (omega (arith, e.0 x i))
       ]
     ]
 
     forth : (z : ℕ) → In z xs → In z ys
     forth z i = elim (f z (inr i)) [
-      | inl s ↦ absurd (let a = d.0 z i in let b = ap t s in let c =
-          ap t same in omega arith)
+      | inl s ↦ absurd (let b = ap t s in let c = ap t same in omega arith)
       | inr j ↦ j
     ]
 
     back : (z : ℕ) → In z ys → In z xs
     back z i = elim (g z (inr i)) [
-      | inl s ↦ absurd (let a = e.0 z i in let b = ap t s in let c =
-          ap t same in omega arith)
+      | inl s ↦ absurd (let b = ap t s in let c = ap t same in omega arith)
       | inr j ↦ j
     ]
 
 pub separate : (p : RankedProblem) (t : ℕ → ℕ) → SoundProblem p → Feasible p t → Descends t (sorted t p.rules.count)
-separate p t sound f = sorted_descends t p.rules.count (λ a b qa qb ne e. let s =
-    f.separated a b qa qb ne (omega arith) in let o = sound.positive a b in omega arith)
+separate p t sound f = sorted_descends t p.rules.count (λ a b qa qb ne e. omega (arith, sound.positive a b))
 
 -- the order by seconds, read the other way
 pub in_order_sorted : (p : RankedProblem) (t : ℕ → ℕ) → SoundProblem p → Feasible p t → (qs : List ℕ)
     → InLandingOrder p.rules.count t qs → onto qs [] ≡ sorted t p.rules.count
 in_order_sorted p t sound f qs o =
-    descends_equal t (onto qs []) (sorted t p.rules.count) (onto_descends t qs [] o.ascends tt (λ q r i j. absurd j))
-    (separate p t sound f)
-    (λ z i. elim (onto_in z qs [] i) [ inl j ↦ in_sorted t p.rules.count z (o.ranked z j) | inr j ↦ absurd j ])
-    (λ z i. in_onto z qs [] (inl (o.whole z (sorted_in t p.rules.count z i))))
+    descends_equal t _ _ (onto_descends t qs [] o.ascends tt (λ q r i j. absurd j)) (separate p t sound f)
+    (λ z i. elim (onto_in z qs [] i) [ inl j ↦ in_sorted t _ z (o.ranked z j) | inr j ↦ absurd j ])
+    (λ z i. in_onto z qs [] (inl (o.whole z (sorted_in t _ z i))))
 
 pub sorted_in_order : (p : RankedProblem) (t : ℕ → ℕ) → SoundProblem p → Feasible p t
     → InLandingOrder p.rules.count t (onto (sorted t p.rules.count) [])

@@ -19,15 +19,14 @@ passing t y (suc m) = cond (t y) 1 0 + passing t (suc y) m
 
 set_digits : (t : ℕ → Bool) (y m : ℕ) → count_by (λ d. d) (tests_from t y m) ≡ passing t y m
 set_digits t y zero = refl
-set_digits t y (suc m) = sum_by-cons (λ (d : Bool). cond d 1 0) (t y) (tests_from t (suc y) m)
-    ∙ ap (λ n. cond (t y) 1 0 + n) (set_digits t (suc y) m)
+set_digits t y (suc m) = sum_by-cons _ _ (tests_from t (suc y) m) ∙ ap (λ n. cond (t y) 1 0 + n) (set_digits t _ m)
 
 length-tests_from : (t : ℕ → Bool) (y m : ℕ) → length (tests_from t y m) ≡ m
 length-tests_from t y zero = refl
-length-tests_from t y (suc m) = ap suc (length-tests_from t (suc y) m)
+length-tests_from t y (suc m) = ap suc (length-tests_from t _ m)
 
 passing_last : (t : ℕ → Bool) (y m : ℕ) → passing t y (suc m) ≡ passing t y m + cond (t (y + m)) 1 0
-passing_last t y zero = let e : y + 0 ≡ y = omega arith in let a = ap (λ x. cond {A = ℕ} (t x) 1 0) e in omega arith
+passing_last t y zero = let e : y + 0 ≡ y = omega arith in omega (arith, ap (λ x. cond {A = ℕ} (t x) 1 0) e)
 passing_last t y (suc m) =
     let e : suc y + m ≡ y + suc m = omega arith in
     let a = ap (λ x. cond {A = ℕ} (t x) 1 0) e in
@@ -46,7 +45,7 @@ passing_none t y (suc m) h = let a = ap (λ b. cond {A = ℕ} b 1 0) (h y (omega
 
 passing_parts : (t : ℕ → Bool) (y a b : ℕ) → passing t y (a + b) ≡ passing t y a + passing t (y + a) b
 passing_parts t y zero b = let e : y + 0 ≡ y = omega arith in let f : 0 + b ≡ b = omega arith in let c =
-    ap (passing t y) f in let d = ap (λ x. passing t x b) e in omega arith
+    ap (passing t y) f in omega (arith, ap (λ x. passing t x b) e)
 passing_parts t y (suc a) b =
     let e : suc a + b ≡ suc (a + b) = omega arith in
     let f : suc y + a ≡ y + suc a = omega arith in
@@ -58,7 +57,7 @@ passing_parts t y (suc a) b =
 passing_agree : (t u : ℕ → Bool) (y m : ℕ) → ((x : ℕ) → y ≤ x → x < y + m → u x ≡ t x) → passing u y m ≡ passing t y m
 passing_agree t u y zero h = refl
 passing_agree t u y (suc m) h = ap₂ (λ b n. cond b 1 0 + n) (h y (omega arith) (omega arith))
-    (passing_agree t u (suc y) m (λ x le lt. h x (omega arith) (omega arith)))
+    (passing_agree t u _ m (λ x le lt. h x (omega arith) (omega arith)))
 
 -- a test that one more number passes counts one more
 passing_set : (t u : ℕ → Bool) (v y m : ℕ) → y ≤ v → v < y + m → t v ≡ false → u v ≡ true
@@ -95,20 +94,15 @@ module _ (g : OrderRules) (low : (r : ℕ) → g.back r ≤ g.most) where
       let t = pattern_digit k rs in
       let u = pattern_digit k (r ∷ rs) in
       let fits = l.0.fits in
-      let from = fits.from_one in
-      let early = fits.not_early in
-      let late = fits.not_late in
-      let back = low r in
       let at_r : r + k - k ≡ r = omega arith in
-      let placed = legal_each_fits g rs l.1 in
-      let unset : t (r + k) ≡ false = ap₂ (λ a b. a || b) (lt-leb (r + k) k (omega arith))
+      let unset = ap₂ (λ a b. a || b) (lt-leb (r + k) k (omega arith))
       (ap (λ x. is_member x rs) at_r ∙ not_member r rs fits.is_new) in
-      let set : u (r + k) ≡ true = ap₂ (λ a b. a || b) (lt-leb (r + k) k (omega arith))
+      let set = ap₂ (λ a b. a || b) (lt-leb (r + k) k (omega arith))
       (ap (λ x. is_member x (r ∷ rs)) at_r ∙ in_member r (r ∷ rs) (inl refl)) in
       let more = passing_set t u (r + k) (suc p) (suc (2 * k)) (omega arith) (omega arith) unset set (other r rs) in
-      let past : t (suc p + 2 * k) ≡ false =
+      let past =
       ap₂ (λ a b. a || b) (lt-leb (suc p + 2 * k) k (omega arith)) (not_member (suc p + 2 * k - k) rs (λ i. let b =
-      in_below g (suc p + 2 * k - k) rs placed i in absurd (omega arith))) in
+      in_below g (suc p + 2 * k - k) rs (legal_each_fits g rs l.1) i in absurd (omega arith))) in
       let last = passing_last t (suc p) (2 * k) in
       let gone = ap (λ b. cond {A = ℕ} b 1 0) past in
       let first = ap (λ b. cond {A = ℕ} b 1 0) (due_set r rs l) in
@@ -118,19 +112,15 @@ module _ (g : OrderRules) (low : (r : ℕ) → g.back r ≤ g.most) where
       other : (r : ℕ) (rs : List ℕ) (x : ℕ) → (x ≡ r + g.most → ⊥)
           → pattern_digit g.most (r ∷ rs) x ≡ pattern_digit g.most rs x
       other r rs x ne = elim (cases_lt g.most x) [
-        | inl above ↦ ap (λ b. leb x g.most || (b || is_member (x - g.most) rs))
-            (ne_eqb (x - g.most) r (λ e. ne (omega arith)))
-        | inr below ↦ (let q = le-leb x g.most below in ap (λ b. b || is_member (x - g.most) (r ∷ rs)) q
-            ∙ sym (ap (λ b. b || is_member (x - g.most) rs) q))
+        | inl above ↦ ap (λ b. leb x g.most || (b || is_member (x - g.most) rs)) (ne_eqb _ r (λ e. ne (omega arith)))
+        | inr below ↦ (let q = le-leb x _ below in ap (λ b. b || is_member (x - g.most) (r ∷ rs)) q ∙ sym (cc))
       ]
 
       due_set : (r : ℕ) (rs : List ℕ) → Legal g (r ∷ rs) → pattern_digit g.most (r ∷ rs) (suc (length rs)) ≡ true
       due_set r rs l = elim (cases_lt g.most (suc (length rs))) [
-        | inl above ↦ ap₂ (λ a b. a || b) (lt-leb (suc (length rs)) g.most above)
-            (in_member (suc (length rs) - g.most) (r ∷ rs)
+        | inl above ↦ ap₂ (λ a b. a || b) (lt-leb _ _ above) (in_member _ (r ∷ rs)
             (l.0.due (suc (length rs) - g.most) (omega arith) (omega arith)))
-        | inr below ↦ ap (λ b. b || is_member (suc (length rs) - g.most) (r ∷ rs))
-            (le-leb (suc (length rs)) g.most below)
+        | inr below ↦ ap (λ b. b || is_member (suc (length rs) - g.most) (r ∷ rs)) (le-leb _ _ below)
       ]
 
   pub legal_is_shaped : (r : ℕ) (rs : List ℕ) → Legal g (r ∷ rs) → IsShaped g.most g.count (pattern_node g (r ∷ rs))
@@ -139,10 +129,8 @@ module _ (g : OrderRules) (low : (r : ℕ) → g.back r ≤ g.most) where
       let p = suc (length rs) in
       let t = pattern_digit k (r ∷ rs) in
       let placed = legal_each_fits g (r ∷ rs) l in
-      let few = few_ranks g.count (r ∷ rs) (each_fits_distinct g (r ∷ rs) placed)
+      let few = few_ranks _ (r ∷ rs) (each_fits_distinct g (r ∷ rs) placed)
       (λ x i. in_from_one g x (r ∷ rs) placed i) in
-      let late = l.0.fits.not_late in
-      let back = low r in
       record {
         stage = few;
         digits = length-tests_from t (suc p) (2 * k);
@@ -154,15 +142,13 @@ module _ (g : OrderRules) (low : (r : ℕ) → g.back r ≤ g.most) where
         above_count = λ y from to great.
             let at : suc p + (y - suc p) ≡ y = omega arith in
             get_or-tests t (suc p) (2 * k) (y - suc p) (omega arith) ∙ ap t at
-            ∙ ap₂ (λ a b. a || b) (lt-leb y k (omega arith)) (not_member (y - k) (r ∷ rs) (λ i. let c =
-            in_from_one g (y - k) (r ∷ rs) placed i in let d = c.1 in absurd (omega arith)));
+            ∙ ap₂ (λ a b. a || b) (lt-leb y k (omega arith)) (not_member (y - k) (r ∷ rs)
+            (λ i. let d = (in_from_one g (y - k) (r ∷ rs) placed i).1 in absurd (omega arith)));
         latest = l.0.fits.to_count;
         near = (omega arith, l.0.fits.not_early);
         latest_placed = elim (cases_lt p (r + k)) [
           | inl lt ↦
-              (let early = l.0.fits.not_early in
-              let one = l.0.fits.from_one in
-              let at : suc p + (r + k - suc p) ≡ r + k = omega arith in
+              (let at : suc p + (r + k - suc p) ≡ r + k = omega arith in
               let of_r : r + k - k ≡ r = omega arith in
               inr (get_or-tests t (suc p) (2 * k) (r + k - suc p) (omega arith) ∙ ap t at
               ∙ ap₂ (λ a b. a || b) (lt-leb (r + k) k (omega arith)) (ap (λ x. is_member x (r ∷ rs)) of_r

@@ -1,6 +1,6 @@
 -- What may come next at a node passes the test of the checker.
-use Rattle.std.proofs.Common.{◌≡◌, ℕ, suc, ◌+◌, ◌-◌, ◌≤◌, inl, inr, Bool, true, false, not, ◌&&◌, ◌||◌, leb, eqb}
-use Rattle.std.proofs.Common.{get_or, refl, ap, arith}
+use Rattle.std.proofs.Common.{◌≡◌, ℕ, suc, ◌-◌, ◌≤◌, inl, inr, Bool, true, false, not, ◌&&◌, eqb}
+use Rattle.std.proofs.Common.{refl, ap, arith}
 use Rattle.std.specs.Prelude.{is_none}
 use Rattle.std.proofs.lemmas.Bool.{cases_lt, le-leb, leb-true, eq-eqb, or_cases, or_left, or_right, and_from}
 use Rattle.cps_theory.specs.RankLists.{above, below}
@@ -13,20 +13,18 @@ use Rattle.cps_theory.specs.laws.FirstFound.{none_from}
 module _ (g : OrderRules) where
   placed_is : (w : PatternNode) (x : ℕ) → IsPlacedByPattern g w x → is_placed_by_pattern g.most w x ≡ true
   unfolding is_placed_by_pattern
-  placed_is w x (inl le) = or_left (leb (x + g.most) w.0) (get_or w.1 (x + g.most - suc w.0) false)
-      (le-leb (x + g.most) w.0 le)
-  placed_is w x (inr e) = or_right (leb (x + g.most) w.0) (get_or w.1 (x + g.most - suc w.0) false) e
+  placed_is w x (inl le) = or_left _ _ (le-leb _ w.0 le)
+  placed_is w x (inr e) = or_right _ _ e
 
   is_digits_placed : (w : PatternNode) (x : ℕ) → is_placed_by_pattern g.most w x ≡ true → IsPlacedByPattern g w x
   unfolding is_placed_by_pattern
-  is_digits_placed w x e = elim (or_cases (leb (x + g.most) w.0) (get_or w.1 (x + g.most - suc w.0) false) e) [
-    | inl le ↦
-        inl (leb-true (x + g.most) w.0 le)
+  is_digits_placed w x e = elim (or_cases _ _ e) [
+    | inl le ↦ inl (leb-true _ w.0 le)
     | inr d ↦ inr d
   ]
 
   not_placed : (w : PatternNode) (x : ℕ) → (IsPlacedByPattern g w x → ⊥) → not (is_placed_by_pattern g.most w x) ≡ true
-  not_placed w x no-one = go (is_placed_by_pattern g.most w x) refl
+  not_placed w x no-one = go _ refl
     where
       go : (b : Bool) → is_placed_by_pattern g.most w x ≡ b → not b ≡ true
       go true e = absurd (no-one (is_digits_placed w x e))
@@ -36,18 +34,17 @@ module _ (g : OrderRules) where
   due_is w r m = elim (cases_lt g.most (suc w.0)) [
     | inl above ↦
         let x = suc w.0 - g.most in
-        or_right (leb (suc w.0) g.most) (eqb x r || is_placed_by_pattern g.most w x)
+        or_right _ _
         (elim (m.due x (omega arith) (omega arith)) [
-          | inl e ↦ or_left (eqb x r) (is_placed_by_pattern g.most w x) (eq-eqb x r e)
-          | inr h ↦ or_right (eqb x r) (is_placed_by_pattern g.most w x) (placed_is w x h)
+          | inl e ↦ or_left _ _ (eq-eqb x r e)
+          | inr h ↦ or_right (eqb x r) _ (placed_is w x h)
         ])
-    | inr below ↦ or_left (leb (suc w.0) g.most) (eqb (suc w.0 - g.most) r
-        || is_placed_by_pattern g.most w (suc w.0 - g.most)) (le-leb (suc w.0) g.most below)
+    | inr below ↦ or_left _ _ (le-leb _ _ below)
   ]
 
   preds_is : (w : PatternNode) (r : ℕ) → MayCome g w.0 (IsPlacedByPattern g w) r → (a : ℕ)
       → 1 ≤ a → is_missing_predecessor g w r a ≡ false
-  preds_is w r m a one = go (g.before a r) refl
+  preds_is w r m a one = go _ refl
     where
       go : (b : Bool) → g.before a r ≡ b → b && not (is_placed_by_pattern g.most w a) ≡ false
       go true e = ap not (placed_is w a (m.after a one e))
@@ -57,8 +54,6 @@ module _ (g : OrderRules) where
   pub permits_is : (w : PatternNode) (r : ℕ) → PatternPermits g w r → permits_next g w r ≡ true
   unfolding permits_next
   permits_is w r m =
-      let early = le-leb r (suc w.0 + g.most) m.not_early in
-      let late = le-leb (suc w.0) (r + g.back r) m.not_late in
-      let preds = none_from (is_missing_predecessor g w r) 1 g.count (λ y le lt. preds_is w r m y le) in
-      and_from _ _ (and_from _ _ (and_from _ _ (and_from _ _ early late) (not_placed w r m.is_new)) (due_is w r m))
-      (ap is_none preds)
+      let late = le-leb _ _ m.not_late in
+      and_from _ _ (and_from _ _ (and_from _ _ (and_from _ _ (le-leb r _ m.not_early) late) (not_placed w r m.is_new))
+      (due_is w r m)) (ap is_none (none_from _ 1 _ (λ y le lt. preds_is w r m y le)))

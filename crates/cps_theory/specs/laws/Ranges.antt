@@ -24,7 +24,7 @@ module _ (P : ℕ → Type 0) (start end : ℕ) where
   some : (i : ℕ) × (i < length numbers) × HoldsAt P numbers i → (k : ℕ) × (start ≤ k) × (k < end) × P k
   some (i, below, h) =
       let short : i < end - start = omega (arith, length-range_with_len start (end - start), below) in
-      (start + i, omega arith, omega arith, subst P (get_or-range_with_len start (end - start) i 0 short) (h 0))
+      (start + i, omega arith, omega arith, rw (get_or-range_with_len _ _ i 0 short) at (h 0))
 
 module _ {F : Type 0} {g : Mut F (ℕ × Unit {0}) Bool} (P : ℕ → Type 0) (s u : Range ℕ) (f : F) (r : Bool)
     (calls : (x : ℕ) (b : Bool) (q : F) → Called g f (x, tt) b q → (q ≡ f) × (IsTrue b ↔ P x)) where
@@ -32,25 +32,24 @@ module _ {F : Type 0} {g : Mut F (ℕ × Unit {0}) Bool} (P : ℕ → Type 0) (s
   fails x q k p = false≢true ((calls x false q k).1.1 p)
 
   pub all_in_range : ChecksAll nat_range_steps g s f r u → IsTrue r ↔ ((k : ℕ) → s.start ≤ k → k < s.end → P k)
-  all_in_range ran = by r (cases_from_all u f r P (λ x. P x → ⊥) ran (YieldsList-from_range s.start s.end _ refl refl)
+  all_in_range ran = by r (cases_from_all u f r P _ ran (YieldsList-from_range _ _ _ refl refl)
       (λ x q k. let c = calls x true q k in (c.0, c.1.0 refl)) fails)
     where
       by : (b : Bool) → MatchBool b (AllWithin P (numbers P s.start s.end) 0 (length (numbers P s.start s.end)))
           ((i : ℕ) × (i < length (numbers P s.start s.end)) × HoldsAt (λ x. P x → ⊥) (numbers P s.start s.end) i)
           → IsTrue b ↔ ((k : ℕ) → s.start ≤ k → k < s.end → P k)
-      by true h = (λ t. each P s.start s.end h, λ h. refl)
+      by true h = (λ t. each P _ _ h, λ h. refl)
       by false h = (
         λ t. absurd (false≢true t),
-        λ all. let x =
-            some (λ x. P x → ⊥) s.start s.end h in absurd (x.3 (all x.0 x.1 x.2)),
+        λ all. let x = some (λ x. P x → ⊥) _ _ h in absurd (x.3 (all x.0 x.1 x.2)),
       )
 
   pub any_in_range : ChecksAny nat_range_steps g s f r u → IsTrue r ↔ ((k : ℕ) × (s.start ≤ k) × (k < s.end) × P k)
-  any_in_range ran = by r (cases_from_any u f r P (λ x. P x → ⊥) ran (YieldsList-from_range s.start s.end _ refl refl)
+  any_in_range ran = by r (cases_from_any u f r P _ ran (YieldsList-from_range _ _ _ refl refl)
       (λ x q k. (calls x true q k).1.0 refl) (λ x q k. ((calls x false q k).0, fails x q k)))
     where
       by : (b : Bool) → MatchBool b ((i : ℕ) × (i < length (numbers P s.start s.end))
           × HoldsAt P (numbers P s.start s.end) i) (AllWithin (λ x. P x → ⊥) (numbers P s.start s.end) 0
           (length (numbers P s.start s.end))) → IsTrue b ↔ ((k : ℕ) × (s.start ≤ k) × (k < s.end) × P k)
-      by true h = (λ t. some P s.start s.end h, λ x. refl)
-      by false h = (λ t. absurd (false≢true t), λ x. absurd (each (λ y. P y → ⊥) s.start s.end h x.0 x.1 x.2 x.3))
+      by true h = (λ t. some P _ _ h, λ x. refl)
+      by false h = (λ t. absurd (false≢true t), λ x. absurd (each (λ y. P y → ⊥) _ _ h x.0 x.1 x.2 x.3))

@@ -1,6 +1,6 @@
 -- Counting in a list of ranks: by tests that cover, split or follow one another, behind a filter or a map.
 use Rattle.std.proofs.Common.{◌≡◌, ℕ, zero, suc, ◌+◌, ◌≤◌, ◌⊎◌, inl, inr, List, [], ◌∷◌, cond, Bool, true, false, ◌&&◌}
-use Rattle.std.proofs.Common.{ltb, leb, eqb, max, count_by, arith, refl, sym, ap, ap₂, subst, ◌∙◌, zero-le, ◌<◌}
+use Rattle.std.proofs.Common.{ltb, leb, eqb, max, count_by, arith, refl, sym, ap, ap₂, ◌∙◌, zero-le, ◌<◌}
 use Rattle.std.proofs.Common.{length, map, filter, not}
 use Rattle.std.proofs.lemmas.Bool.{cases_lt, cases_eq, cases_Bool, ltb-true, leb-true, eqb-true, le-leb, eq-eqb}
 use Rattle.std.proofs.lemmas.Bool.{and_parts, and_from, false≢true}
@@ -14,13 +14,13 @@ count t (r ∷ rs) = cond (t r) 1 0 + count t rs
 
 pub count_is : (t : ℕ → Bool) (rs : List ℕ) → count_by t rs ≡ count t rs
 count_is t [] = refl
-count_is t (r ∷ rs) = sum_by-cons (λ x. cond (t x) 1 0) r rs ∙ ap (λ n. cond (t r) 1 0 + n) (count_is t rs)
+count_is t (r ∷ rs) = sum_by-cons _ r rs ∙ ap (λ n. cond (t r) 1 0 + n) (count_is t rs)
 
 pub at_yes : (b : Bool) → b ≡ true → cond {A = ℕ} b 1 0 ≡ 1
-at_yes b e = ap (λ c. cond {A = ℕ} c 1 0) e
+at_yes b e = cc
 
 pub at_no : (b : Bool) → b ≡ false → cond {A = ℕ} b 1 0 ≡ 0
-at_no b e = ap (λ c. cond {A = ℕ} c 1 0) e
+at_no b e = cc
 
 covered : (b c d : Bool) → (b ≡ true → (c ≡ true) ⊎ (d ≡ true)) → cond b 1 0 ≤ cond c 1 0 + cond d 1 0
 covered false c d h = zero-le
@@ -33,14 +33,14 @@ pub count_cover : (t u v : ℕ → Bool) (rs : List ℕ) → ((r : ℕ) → In r
     → count t rs ≤ count u rs + count v rs
 count_cover t u v [] h = zero-le
 count_cover t u v (r ∷ rs) h =
-    let a = covered (t r) (u r) (v r) (h r (inl refl)) in
+    let a = covered _ _ _ (h r (inl refl)) in
     let b = count_cover t u v rs (λ x i. h x (inr i)) in
     omega arith
 
 pub count_none : (t : ℕ → Bool) (rs : List ℕ) → ((r : ℕ) → In r rs → t r ≡ true → ⊥) → count t rs ≡ 0
 count_none t [] h = refl
 count_none t (r ∷ rs) h =
-    let a : t r ≡ false = elim (cases_Bool (t r)) [ inl e ↦ absurd (h r (inl refl) e) | inr e ↦ e ] in
+    let a : t r ≡ false = elim (cases_Bool _) [ inl e ↦ absurd (h r (inl refl) e) | inr e ↦ e ] in
     ap₂ (λ b n. cond b 1 0 + n) a (count_none t rs (λ x i. h x (inr i)))
 
 -- a number stands once in a list of different ones
@@ -49,15 +49,13 @@ count_once v [] d = zero-le
 count_once v (r ∷ rs) d =
     elim (cases_eq r v) [
       | inl e ↦
-          let none = count_none (λ x. eqb x v) rs (λ x i q. let s : x ≡ r =
-          eqb-true x v q ∙ sym e in d.0 (subst (λ y. In y rs) s i)) in
+          let none = count_none _ rs (λ x i q. let s = eqb-true x v q ∙ sym e in d.0 (rw s at i)) in
           let b = once (eqb r v) in
           omega arith
       | inr ne ↦
           let rest = count_once v rs d.1 in
-          let a : eqb r v ≡ false = elim (cases_Bool (eqb r v)) [ inl q ↦ absurd (ne (eqb-true r v q)) | inr q ↦ q ] in
-          let b = at_no (eqb r v) a in
-          omega arith
+          let a : eqb r v ≡ false = elim (cases_Bool _) [ inl q ↦ absurd (ne (eqb-true r v q)) | inr q ↦ q ] in
+          omega (arith, at_no (eqb r v) a)
     ]
   where
     once : (b : Bool) → cond {A = ℕ} b 1 0 ≤ 1
@@ -67,7 +65,7 @@ count_once v (r ∷ rs) d =
 -- of different numbers, at most b - x are above x and up to b
 pub count_between : (x b : ℕ) (rs : List ℕ) → Distinct rs → count (λ r. ltb x r && leb r b) rs + x ≤ max x b
 count_between x zero rs d =
-    let none = count_none (λ r. ltb x r && leb r 0) rs (λ r i q. let p = and_parts (ltb x r) (leb r 0) q in let a =
+    let none = count_none _ rs (λ r i q. let p = and_parts (ltb x r) (leb r 0) q in let a =
     ltb-true x r p.0 in let c = leb-true r 0 p.1 in omega arith) in
     omega arith
 count_between x (suc b) rs d =
@@ -75,31 +73,29 @@ count_between x (suc b) rs d =
     elim (cases_lt x (suc b)) [
       | inl lt ↦
           let one = count_once (suc b) rs d in
-          let step = count_cover (λ r. ltb x r && leb r (suc b)) (λ r. ltb x r && leb r b)
-          (λ r. eqb r (suc b)) rs (λ r i q.
+          let step = count_cover _ _ _ rs (λ r i q.
           let p = and_parts (ltb x r) (leb r (suc b)) q in
-          let c = leb-true r (suc b) p.1 in
+          let c = leb-true r _ p.1 in
           elim (cases_eq r (suc b)) [
-            | inl e ↦ inr (eq-eqb r (suc b) e)
-            | inr ne ↦
-                inl (and_from (ltb x r) (leb r b) p.0 (le-leb r b (omega arith)))
+            | inl e ↦ inr (eq-eqb r _ e)
+            | inr ne ↦ inl (and_from _ _ p.0 (le-leb r b (omega arith)))
           ]) in
           omega arith
       | inr le ↦
-          let none = count_none (λ r. ltb x r && leb r (suc b)) rs
+          let none = count_none _ rs
           (λ r i q. let p = and_parts (ltb x r) (leb r (suc b)) q in let a = ltb-true x r p.0 in let c =
-          leb-true r (suc b) p.1 in omega arith) in
+          leb-true r _ p.1 in omega arith) in
           omega arith
     ]
 
 pub count_filter : (p q : ℕ → Bool) (xs : List ℕ) → count p (filter q xs) ≡ count (λ x. q x && p x) xs
 count_filter p q [] = refl
-count_filter p q (x ∷ xs) = go (q x) (count_filter p q xs)
+count_filter p q (x ∷ xs) = go _ (count_filter p q xs)
   where
     go : (b : Bool) → count p (filter q xs) ≡ count (λ y. q y && p y) xs
         → count p (cond b (x ∷ filter q xs) (filter q xs)) ≡ cond (b && p x) 1 0 + count (λ y. q y && p y) xs
-    go true ih = ap (λ n. cond (p x) 1 0 + n) ih
-    go false ih = let a : 0 + count (λ y. q y && p y) xs ≡ count (λ y. q y && p y) xs = omega arith in ih ∙ sym a
+    go true ih = cc
+    go false ih = omega arith
 
 pub count_map : (p : ℕ → Bool) (h : ℕ → ℕ) (xs : List ℕ) → count p (map h xs) ≡ count (λ x. p (h x)) xs
 count_map p h [] = refl
@@ -110,7 +106,7 @@ pub count_weaker : (p q : ℕ → Bool) (xs : List ℕ) → ((x : ℕ) → In x 
     → count p xs ≤ count q xs
 count_weaker p q xs h =
     let a = count_cover p q (λ x. false) xs (λ x i e. inl (h x i e)) in
-    let b = count_none (λ x. false) xs (λ x i e. false≢true e) in
+    let b = count_none _ xs (λ x i e. false≢true e) in
     omega arith
 
 -- and more, where it holds of one more
@@ -119,12 +115,11 @@ pub count_stricter : (p q : ℕ → Bool) (y : ℕ) (xs : List ℕ) → In y xs 
 count_stricter p q y [] i no' yes' h = absurd i
 count_stricter p q y (x ∷ xs) (inl e) no' yes' h =
     let a : cond {A = ℕ} (p x) 1 0 ≡ 0 = ap (λ b. cond {A = ℕ} b 1 0) (ap p (sym e) ∙ no') in
-    let c : cond {A = ℕ} (q x) 1 0 ≡ 1 = ap (λ b. cond {A = ℕ} b 1 0) (ap q (sym e) ∙ yes') in
-    let w = count_weaker p q xs (λ z j. h z (inr j)) in
-    omega arith
+    let c = ap (λ b. cond {A = ℕ} b 1 0) (ap q (sym e) ∙ yes') in
+    omega (arith, count_weaker p q xs (λ z j. h z (inr j)))
 count_stricter p q y (x ∷ xs) (inr i) no' yes' h =
     let ih = count_stricter p q y xs i no' yes' (λ z j. h z (inr j)) in
-    let a = one (p x) (q x) (h x (inl refl)) in
+    let a = one _ _ (h x (inl refl)) in
     omega arith
   where
     one : (b c : Bool) → (b ≡ true → c ≡ true) → cond {A = ℕ} b 1 0 ≤ cond {A = ℕ} c 1 0
@@ -141,7 +136,7 @@ pub count_split : (p q r : ℕ → Bool) (xs : List ℕ)
 count_split p q r [] h = refl
 count_split p q r (x ∷ xs) h =
     let ih = count_split p q r xs (λ y i. h y (inr i)) in
-    let a = go (p x) (q x) (r x) (h x (inl refl)) in
+    let a = go _ _ _ (h x (inl refl)) in
     omega arith
   where
     go : (b c d : Bool) → ((d ≡ true) × (b ≡ true) × (c ≡ false))
@@ -155,7 +150,7 @@ count_split p q r (x ∷ xs) h =
 pub count_parts : (p q : ℕ → Bool) (xs : List ℕ)
     → count p xs ≡ count p (filter q xs) + count p (filter (λ x. not (q x)) xs)
 count_parts p q [] = refl
-count_parts p q (x ∷ xs) = go (q x) (count_parts p q xs)
+count_parts p q (x ∷ xs) = go _ (count_parts p q xs)
   where
     go : (b : Bool) → count p xs ≡ count p (filter q xs) + count p (filter (λ y. not (q y)) xs)
         → cond (p x) 1 0 + count p xs ≡ count p (cond b (x ∷ filter q xs) (filter q xs)) + count p
@@ -169,5 +164,5 @@ count_agree p q (x ∷ xs) h = ap₂ (λ b n. cond b 1 0 + n) (h x (inl refl)) (
 
 pub count_length : (p : ℕ → Bool) (rs : List ℕ) → ((r : ℕ) → In r rs → p r ≡ true) → count p rs ≡ length rs
 count_length p [] h = refl
-count_length p (r ∷ rs) h = let a = at_yes (p r) (h r (inl refl)) in let b =
+count_length p (r ∷ rs) h = let a = at_yes _ (h r (inl refl)) in let b =
     count_length p rs (λ x i. h x (inr i)) in omega arith

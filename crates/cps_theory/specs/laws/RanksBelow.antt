@@ -15,24 +15,22 @@ ranks_folded step so_far more n = from n 0 1 n (omega arith) (omega arith)
     from : (m a b c : ℕ) → b ≡ suc a → c ≡ m + a → fold step (so_far a) (range_with_len b m) ≡ so_far c
     from zero a b c e is = ap so_far (omega arith)
     from (suc m) a b c e is = ap (λ x. fold step x (range_with_len (b + 1) m)) (ap (step (so_far a)) e ∙ more a)
-        ∙ from m (suc a) (b + 1) c (omega arith) (omega arith)
+        ∙ from m _ _ c (omega arith) (omega arith)
 
 pub greatest_least : (t : ℕ → ℕ) (n m : ℕ) → ((r : ℕ) → IsRank n r → t r ≤ m) → greatest t n ≤ m
 greatest_least t zero m h = omega arith
-greatest_least t (suc n) m h = let a = greatest_least t n m (λ r q. h r (q.0, omega arith)) in let b =
-    h (suc n) (omega arith, omega arith) in omega arith
+greatest_least t (suc n) m h = omega (arith, greatest_least t n m (λ r q. h r (q.0, omega arith)))
 
 pub at_most_greatest : (t : ℕ → ℕ) (n r : ℕ) → IsRank n r → t r ≤ greatest t n
 at_most_greatest t zero r q = absurd (omega arith)
 at_most_greatest t (suc n) r q = elim (cases_eq r (suc n)) [
-  | inl e ↦ let s = ap t e in omega arith
-  | inr ne ↦ let a =
-      at_most_greatest t n r (q.0, omega arith) in omega arith
+  | inl e ↦ omega (arith, ap t e)
+  | inr ne ↦ let a = at_most_greatest t n r (q.0, omega arith) in omega arith
 ]
 
 pub in_upto : (n x : ℕ) → In x (upto n) → IsRank n x
 in_upto zero x i = absurd i
-in_upto (suc n) x (inl e) = (omega arith, omega arith)
+in_upto (suc n) x (inl e) = omega arith
 in_upto (suc n) x (inr i) = let a = in_upto n x i in (a.0, omega arith)
 
 pub length-upto : (n : ℕ) → length (upto n) ≡ n
@@ -42,10 +40,9 @@ length-upto (suc n) = ap suc (length-upto n)
 pub count_below : (n r : ℕ) → 1 ≤ r → r ≤ suc n → suc (count (λ q. ltb q r) (upto n)) ≡ r
 count_below zero r one le = omega arith
 count_below (suc n) r one le =
-    let ih = count_below n r one in
     elim (cases_eq r (suc (suc n))) [
       | inl e ↦ let a = count_length (λ q. ltb q r) (suc n ∷ upto n) (λ x i. let b =
           in_upto (suc n) x i in lt-ltb x r (omega arith)) in let c = length-upto n in omega arith
       | inr ne ↦ let a = ap (λ b. cond {A = ℕ} b 1 0) (le-ltb (suc n) r (omega arith)) in let b =
-          ih (omega arith) in omega arith
+          (count_below n r one) (omega arith) in omega arith
     ]

@@ -1,7 +1,7 @@
 -- A list of different ranks from 1 to n has no more than n, all of them where it has n, and then the sums of the ranks
 -- up to n.
 use Rattle.std.proofs.Common.{◌≡◌, ℕ, zero, suc, ◌+◌, ◌≤◌, ◌⊎◌, inl, inr, List, [], ◌∷◌, length, cond, Bool, true}
-use Rattle.std.proofs.Common.{false, ◌&&◌, ltb, leb, eqb, arith, refl, sym, ap, subst, ◌∙◌}
+use Rattle.std.proofs.Common.{false, eqb, arith, refl, sym, ap, ◌∙◌}
 use Rattle.std.proofs.lemmas.Bool.{cases_eq, eqb-true, eqb-false, lt-ltb, le-leb, and_from}
 use Rattle.cps_theory.specs.RankLists.{Distinct, In, IsRank, upto}
 use Rattle.cps_theory.specs.Feasible.{total}
@@ -17,8 +17,7 @@ drop_one x (r ∷ rs) = cond (eqb x r) rs (r ∷ drop_one x rs)
 pub few_ranks : (n : ℕ) (rs : List ℕ) → Distinct rs → ((x : ℕ) → In x rs → IsRank n x) → length rs ≤ n
 few_ranks n rs d in' =
     let a = count_between 0 n rs d in
-    let b = count_length (λ r. ltb 0 r && leb r n) rs (λ r i. let q =
-    in' r i in and_from (ltb 0 r) (leb r n) (lt-ltb 0 r (omega arith)) (le-leb r n q.1)) in
+    let b = count_length _ rs (λ r i. let q = in' r i in and_from _ _ (lt-ltb 0 r (omega arith)) (le-leb r n q.1)) in
     omega arith
 
 -- so n of them are all of them
@@ -26,13 +25,12 @@ pub all_ranks : (n : ℕ) (rs : List ℕ) → Distinct rs → ((x : ℕ) → In 
     → (x : ℕ) → IsRank n x → In x rs
 all_ranks n rs d in' whole x r = elim (cases_in x rs) [
   | inl i ↦ i
-  | inr out ↦ absurd (let a = few_ranks n (x ∷ rs) (out, d)
-      (λ y i. elim i [ inl e ↦ subst (IsRank n) (sym e) r | inr j ↦ in' y j ]) in omega arith)
+  | inr out ↦ absurd (omega (arith, few_ranks n (x ∷ rs) (out, d) (λ y i. elim i [ inl e ↦ rw e r | inr j ↦ in' y j ])))
 ]
 
 pub in_drop : (x y : ℕ) (rs : List ℕ) → In y (drop_one x rs) → In y rs
 in_drop x y [] i = i
-in_drop x y (r ∷ rs) i = go (eqb x r) i (in_drop x y rs)
+in_drop x y (r ∷ rs) i = go _ i (in_drop x y rs)
   where
     go : (b : Bool) → In y (cond b rs (r ∷ drop_one x rs)) → (In y (drop_one x rs) → In y rs) → (y ≡ r) ⊎ In y rs
     go true i ih = inr i
@@ -41,17 +39,17 @@ in_drop x y (r ∷ rs) i = go (eqb x r) i (in_drop x y rs)
 
 pub distinct_drop : (x : ℕ) (rs : List ℕ) → Distinct rs → Distinct (drop_one x rs) × (In x (drop_one x rs) → ⊥)
 distinct_drop x [] d = (tt, λ i. i)
-distinct_drop x (r ∷ rs) d = go (eqb x r) refl (distinct_drop x rs d.1)
+distinct_drop x (r ∷ rs) d = go _ refl (distinct_drop x rs d.1)
   where
     go : (b : Bool) → eqb x r ≡ b → Distinct (drop_one x rs) × (In x (drop_one x rs) → ⊥)
         → Distinct (cond b rs (r ∷ drop_one x rs)) × (In x (cond b rs (r ∷ drop_one x rs)) → ⊥)
-    go true e ih = (d.1, subst (λ y. In y rs → ⊥) (sym (eqb-true x r e)) d.0)
+    go true e ih = (d.1, rw (eqb-true x r e) d.0)
     go false e ih = ((λ i. d.0 (in_drop x r rs i), ih.0), λ i. elim i [ inl s ↦ eqb-false x r e s | inr j ↦ ih.1 j ])
 
 pub total_drop : (f : ℕ → ℕ) (x : ℕ) (rs : List ℕ) → In x rs → (total f rs ≡ f x + total f (drop_one x rs))
     × (length rs ≡ suc (length (drop_one x rs)))
 total_drop f x [] i = absurd i
-total_drop f x (r ∷ rs) i = go (eqb x r) refl i (total_drop f x rs)
+total_drop f x (r ∷ rs) i = go _ refl i (total_drop f x rs)
   where
     go : (b : Bool) → eqb x r ≡ b → (x ≡ r) ⊎ In x rs
         → (In x rs → (total f rs ≡ f x + total f (drop_one x rs)) × (length rs ≡ suc (length (drop_one x rs))))
@@ -59,31 +57,28 @@ total_drop f x (r ∷ rs) i = go (eqb x r) refl i (total_drop f x rs)
         × (suc (length rs) ≡ suc (length (cond b rs (r ∷ drop_one x rs))))
     go true e i ih = (ap (λ y. f y + total f rs) (sym (eqb-true x r e)), refl)
     go false e (inl s) ih = absurd (eqb-false x r e s)
-    go false e (inr i) ih = let a = ih i in (omega (arith, a.0), omega (arith, a.1))
+    go false e (inr i) ih = omega arith
 
 pub total_ranks : (f : ℕ → ℕ) (n : ℕ) (rs : List ℕ) → Distinct rs → ((x : ℕ) → In x rs → IsRank n x)
     → length rs ≡ n → total f rs ≡ total f (upto n)
 total_ranks f zero [] d in' e = refl
 total_ranks f zero (r ∷ rs) d in' e = absurd (omega arith)
 total_ranks f (suc n) rs d in' e =
-    let has = all_ranks (suc n) rs d in' e (suc n) (omega arith, omega arith) in
-    let t = total_drop f (suc n) rs has in
-    let dd = distinct_drop (suc n) rs d in
-    let rest = total_ranks f n (drop_one (suc n) rs) dd.0 (λ x i. let r = in' x (in_drop (suc n) x rs i) in (
+    let t = total_drop f _ rs (all_ranks _ rs d in' e _ (omega arith, omega arith)) in
+    let dd = distinct_drop _ rs d in
+    let rest = total_ranks f n _ dd.0 (λ x i. let r = in' x (in_drop _ x rs i) in (
       r.0,
-      elim (cases_eq x (suc n)) [
-        | inl q ↦ absurd (dd.1 (subst (λ y. In y (drop_one (suc n) rs)) q i))
-        | inr ne ↦
-            omega arith
+      elim (cases_eq x _) [
+        | inl q ↦ absurd (dd.1 (rw q at i))
+        | inr ne ↦ omega arith
       ],
-    )) (let l = t.1 in omega arith) in
+    )) (omega arith) in
     t.0 ∙ ap (λ m. f (suc n) + m) rest
 
 pub count_total : (p : ℕ → Bool) (rs : List ℕ) → count p rs ≡ total (λ r. cond (p r) 1 0) rs
 count_total p [] = refl
-count_total p (r ∷ rs) = ap (λ m. cond (p r) 1 0 + m) (count_total p rs)
+count_total p (r ∷ rs) = cc
 
 pub count_ranks : (p : ℕ → Bool) (n : ℕ) (rs : List ℕ) → Distinct rs → ((x : ℕ) → In x rs → IsRank n x)
     → length rs ≡ n → count p rs ≡ count p (upto n)
-count_ranks p n rs d in' e = count_total p rs ∙ total_ranks (λ r. cond (p r) 1 0) n rs d in' e
-    ∙ sym (count_total p (upto n))
+count_ranks p n rs d in' e = count_total p rs ∙ total_ranks _ n rs d in' e ∙ sym (count_total p _)

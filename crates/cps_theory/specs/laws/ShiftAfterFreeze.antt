@@ -5,12 +5,11 @@ use Rattle.std.proofs.lemmas.Bool.{cases_Bool, ltb-true, lt-ltb, le-ltb, le-leb,
 use Rattle.cps_theory.specs.RankLists.{Distinct, In}
 use Rattle.cps_theory.specs.Freeze.{FirstCome, KeepsCountedShift, frozen_of, overtook, staying_of}
 use Rattle.cps_theory.specs.laws.Members.{distinct_filter, in_filter}
-use Rattle.cps_theory.specs.laws.RankCounts.{count_length, count_map, count_parts, count_split, count_stricter}
+use Rattle.cps_theory.specs.laws.RankCounts.{count_map, count_parts, count_split, count_stricter}
 use Rattle.cps_theory.specs.laws.RankCounts.{count_weaker, count, count_is, count_between}
 
 pub not_before_itself : (comes_before : ℕ → ℕ → Bool) → FirstCome comes_before → (f : ℕ) → comes_before f f ≡ false
-not_before_itself comes_before order f =
-    elim (cases_Bool (comes_before f f)) [ inl e ↦ order.one_way f f e | inr e ↦ e ]
+not_before_itself comes_before order f = elim (cases_Bool _) [ inl e ↦ order.one_way f f e | inr e ↦ e ]
 
 module _ (comes_before : ℕ → ℕ → Bool) (order : FirstCome comes_before) (t : ℕ → ℕ) (waiting : List ℕ)
     (k h : ℕ) (back : ℕ → ℕ) (differ : Distinct waiting) (shift : (f : ℕ) → In f waiting
@@ -32,15 +31,14 @@ module _ (comes_before : ℕ → ℕ → Bool) (order : FirstCome comes_before) 
   rank_rises : (a b : ℕ) → In a waiting → comes_before a b ≡ true → rank a < rank b
   unfolding rank
   rank_rises a b i e =
-      let s = count_stricter (λ g. comes_before g a) (λ g. comes_before g b) a waiting i
-      (not_before_itself comes_before order a) e (λ x j q. order.chain x a b q e) in
+      let s = count_stricter _ _ a _ i (not_before_itself _ order a) e (λ x j q. order.chain x a b q e) in
       omega arith
 
   place_rises : (a b : ℕ) → In a waiting → t a < t b → place a < place b
   unfolding place
   place_rises a b i lt =
-      let s = count_stricter (λ g. nat_lt (t g) (t a)) (λ g. nat_lt (t g) (t b)) a waiting i
-      (le-ltb (t a) (t a) (omega arith)) (lt-ltb (t a) (t b) lt) (λ x j q. lt-ltb (t x) (t b) (let c =
+      let s = count_stricter _ _ a _ i
+      (le-ltb _ _ (omega arith)) (lt-ltb (t a) (t b) lt) (λ x j q. lt-ltb (t x) (t b) (let c =
       ltb-true (t x) (t a) q in omega arith)) in
       omega arith
 
@@ -49,8 +47,8 @@ module _ (comes_before : ℕ → ℕ → Bool) (order : FirstCome comes_before) 
   ranks_differ (x ∷ xs) d in' = (λ i. apart xs d.0 (λ y j. in' y (inr j)) i, ranks_differ xs d.1 (λ y j. in' y (inr j)))
     where
       unequal : (y : ℕ) → In y waiting → x ≢ y → rank x ≢ rank y
-      unequal y j ne e = elim (cases_Bool (comes_before x y)) [
-        | inl b ↦ let r = rank_rises x y (in' x (inl refl)) b in omega arith
+      unequal y j ne e = elim (cases_Bool _) [
+        | inl b ↦ omega (arith, rank_rises x y (in' x (inl refl)) b)
         | inr b ↦ let r = rank_rises y x j (order.total x y ne b) in omega arith
       ]
 
@@ -64,19 +62,17 @@ module _ (comes_before : ℕ → ℕ → Bool) (order : FirstCome comes_before) 
       → count (λ g. comes_before f g) (frozen_of t h waiting) + rank f ≤ max (rank f) (place f - 1 + k)
   few_overtook f i at =
       let froze = frozen_of t h waiting in
-      let d = ranks_differ froze (distinct_filter (λ g. nat_lt (t g) h) waiting differ)
+      let d = ranks_differ froze (distinct_filter _ _ differ)
       (λ x j. (in_filter (λ g. nat_lt (t g) h) x waiting j).0) in
       let between = count_between (rank f) (place f - 1 + k) (map rank froze) d in
       let same = count_map (λ x. ltb (rank f) x && leb x (place f - 1 + k)) rank froze in
-      let fewer = count_weaker (λ g. comes_before f g) (λ g. ltb (rank f) (rank g)
-      && leb (rank g) (place f - 1 + k)) froze (λ g j q.
+      let fewer = count_weaker _ _ froze (λ g j q.
       let w = in_filter (λ z. nat_lt (t z) h) g waiting j in
       let lt = ltb-true (t g) h w.1 in
       let r = rank_rises f g i q in
       let p = place_rises g f w.0 (omega arith) in
       let s = shift_of g w.0 in
-      and_from (ltb (rank f) (rank g)) (leb (rank g) (place f - 1 + k)) (lt-ltb (rank f) (rank g) r)
-      (le-leb (rank g) (place f - 1 + k) (omega (arith, s.0)))) in
+      and_from _ _ (lt-ltb (rank f) (rank g) r) (le-leb (rank g) (place f - 1 + k) (omega (arith, s.0)))) in
       omega arith
 
   -- so a flight that stays keeps the rule, also if it may go back less by as many as overtook it
@@ -92,14 +88,11 @@ module _ (comes_before : ℕ → ℕ → Bool) (order : FirstCome comes_before) 
       let s = shift_of f i in
       let ranks = count_parts (λ g. comes_before g f) early waiting in
       let places = count_parts (λ g. nat_lt (t g) (t f)) early waiting in
-      let all = count_length (λ g. nat_lt (t g) (t f)) froze (λ g j. let w =
-      in_filter early g waiting j in lt-ltb (t g) (t f) (let lt = ltb-true (t g) h w.1 in omega arith)) in
-      let split = count_split (λ g. comes_before g f) (λ g. comes_before f g) (λ g. nat_lt (t g) (t f)) froze (λ g j.
-      let w = in_filter early g waiting j in
-      let lt = ltb-true (t g) h w.1 in
-      let yes' = lt-ltb (t g) (t f) (omega arith) in
+      let split = count_split _ _ (λ g. nat_lt (t g) (t f)) _ (λ g j.
+      let lt = ltb-true (t g) h (in_filter early g waiting j).1 in
+      let yes' = lt-ltb _ _ (omega arith) in
       let ne : f ≢ g = λ e. let q = ap t e in omega arith in
-      elim (cases_Bool (comes_before f g)) [
+      elim (cases_Bool _) [
         | inl b ↦ inr (inl (yes', order.one_way f g b, b))
         | inr b ↦ inl (yes', order.total f g ne b, b)
       ]) in

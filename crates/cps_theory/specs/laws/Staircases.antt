@@ -1,6 +1,6 @@
 -- Pairs that rise in second and fall in cost: told by their pairs, and swept from a sorted list.
 use Rattle.std.proofs.Common.{◌≡◌, ℕ, ◌<◌, ◌≤◌, ◌⊎◌, inl, inr, List, [], ◌∷◌, Bool, true, false, cond, ltb, arith}
-use Rattle.std.proofs.Common.{refl, sym, ap, ap₂, subst, ◌∙◌, le_refl}
+use Rattle.std.proofs.Common.{refl, sym, ap, ap₂, ◌∙◌}
 use Rattle.std.proofs.lemmas.Bool.{ltb-true, ltb-false}
 use Rattle.cps_theory.specs.Labels.{InPairs, NoWorse, Pair}
 use Rattle.cps_theory.specs.UndominatedPairs.{InPairOrder, Staircase, sweep}
@@ -9,10 +9,8 @@ use Rattle.cps_theory.specs.UndominatedPairs.{InPairOrder, Staircase, sweep}
 pub staircase_apart : (ps : List Pair) → Staircase ps → (p q : Pair) → InPairs p ps → InPairs q ps → NoWorse p q → p ≡ q
 staircase_apart [] s p q i j le = absurd i
 staircase_apart (x ∷ ps) s p q (inl e) (inl e') le = e ∙ sym e'
-staircase_apart (x ∷ ps) s p q (inl e) (inr j) le = let a = s.0 q j in let b =
-    ap (λ (z : Pair). z.1) e in absurd (let c = le.1 in let d = a.1 in omega arith)
-staircase_apart (x ∷ ps) s p q (inr i) (inl e) le = let a = s.0 p i in let b =
-    ap (λ (z : Pair). z.0) e in absurd (let c = le.0 in let d = a.0 in omega arith)
+staircase_apart (x ∷ ps) s p q (inl e) (inr j) le = let b = ap (λ (z : Pair). z.1) e in absurd (omega arith)
+staircase_apart (x ∷ ps) s p q (inr i) (inl e) le = let b = ap (λ (z : Pair). z.0) e in absurd (omega arith)
 staircase_apart (x ∷ ps) s p q (inr i) (inr j) le = staircase_apart ps s.1 p q i j le
 
 -- stairs with the same pairs are the same list
@@ -28,25 +26,25 @@ staircase_same (p ∷ ps) (q ∷ qs) s t a b =
     heads : (p ≡ q) ⊎ InPairs p qs → (q ≡ p) ⊎ InPairs q ps → p ≡ q
     heads (inl e) _ = e
     heads (inr i) (inl e) = sym e
-    heads (inr i) (inr j) = absurd (let x = (t.0 p i).0 in let y = (s.0 q j).0 in omega arith)
+    heads (inr i) (inr j) = absurd (omega (arith, (t.0 p i).0))
 
     rest_a : p ≡ q → (x : Pair) → InPairs x ps → (x ≡ q) ⊎ InPairs x qs → InPairs x qs
     rest_a e x i (inr j) = j
-    rest_a e x i (inl f) = absurd (let l = (s.0 x i).0 in let c = ap (λ (z : Pair). z.0) (f ∙ sym e) in omega arith)
+    rest_a e x i (inl f) = absurd (omega (arith, ap (λ (z : Pair). z.0) (f ∙ sym e)))
 
     rest_b : p ≡ q → (x : Pair) → InPairs x qs → (x ≡ p) ⊎ InPairs x ps → InPairs x ps
     rest_b e x i (inr j) = j
-    rest_b e x i (inl f) = absurd (let l = (t.0 x i).0 in let c = ap (λ (z : Pair). z.0) (f ∙ e) in omega arith)
+    rest_b e x i (inl f) = absurd (omega (arith, ap (λ (z : Pair). z.0) (f ∙ e)))
 
 sweep_in : (c : ℕ) (ps : List Pair) (q : Pair) → InPairs q (sweep c ps) → InPairs q ps × (q.1 < c)
 sweep_in c [] q i = absurd i
-sweep_in c (p ∷ ps) q i = go (ltb p.1 c) refl i (sweep_in p.1 ps q) (sweep_in c ps q)
+sweep_in c (p ∷ ps) q i = go _ refl i (sweep_in p.1 ps q) (sweep_in c ps q)
   where
     go : (b : Bool) → ltb p.1 c ≡ b → InPairs q (cond b (p ∷ sweep p.1 ps) (sweep c ps))
         → (InPairs q (sweep p.1 ps) → InPairs q ps × (q.1 < p.1)) → (InPairs q (sweep c ps) → InPairs q ps × (q.1 < c))
         → ((q ≡ p) ⊎ InPairs q ps) × (q.1 < c)
     go true e (inl s) h k = (inl s, let a = ltb-true p.1 c e in let b = ap (λ (z : Pair). z.1) s in omega arith)
-    go true e (inr j) h k = let a = h j in let b = ltb-true p.1 c e in (inr a.0, let d = a.1 in omega arith)
+    go true e (inr j) h k = let a = h j in let b = ltb-true p.1 c e in (inr a.0, omega arith)
     go false e j h k = let a = k j in (inr a.0, a.1)
 
 pub sweep_subset : (c : ℕ) (ps : List Pair) (q : Pair) → InPairs q (sweep c ps) → InPairs q ps
@@ -54,35 +52,30 @@ sweep_subset c ps q i = (sweep_in c ps q i).0
 
 pub sweep_staircase : (c : ℕ) (ps : List Pair) → InPairOrder ps → Staircase (sweep c ps)
 sweep_staircase c [] o = tt
-sweep_staircase c (p ∷ ps) o = go (ltb p.1 c) (sweep_staircase p.1 ps o.1) (sweep_staircase c ps o.1)
+sweep_staircase c (p ∷ ps) o = go _ (sweep_staircase p.1 ps o.1) (sweep_staircase c ps o.1)
   where
     go : (b : Bool) → Staircase (sweep p.1 ps) → Staircase (sweep c ps)
         → Staircase (cond b (p ∷ sweep p.1 ps) (sweep c ps))
-    go true h k = (
-      λ q i. let a = sweep_in p.1 ps q i in
-          (elim (o.0 q a.0) [ inl lt ↦ lt | inr e ↦ absurd (let b = a.1 in let d = e.1 in omega arith) ], a.1),
-      h,
-    )
+    go true h k = (λ q i. let a = sweep_in p.1 ps q i in (omega arith), h)
     go false h k = k
 
 pub sweep_covers : (c : ℕ) (ps : List Pair) → InPairOrder ps → (q : Pair) → InPairs q ps
     → ((p : Pair) × InPairs p (sweep c ps) × NoWorse p q) ⊎ (c ≤ q.1)
 sweep_covers c [] o q i = absurd i
-sweep_covers c (p ∷ ps) o q i = go (ltb p.1 c) refl i (sweep_covers p.1 ps o.1 q) (sweep_covers c ps o.1 q)
+sweep_covers c (p ∷ ps) o q i = go _ refl i (sweep_covers p.1 ps o.1 q) (sweep_covers c ps o.1 q)
   where
     first_le : (q ≡ p) ⊎ InPairs q ps → p.0 ≤ q.0
-    first_le (inl s) = let a = ap (λ (z : Pair). z.0) s in omega arith
-    first_le (inr j) = elim (o.0 q j) [ inl lt ↦ omega arith | inr e ↦ let a = e.0 in omega arith ]
+    first_le (inl s) = omega (arith, ap (λ (z : Pair). z.0) s)
+    first_le (inr j) = omega arith
 
     go : (b : Bool) → ltb p.1 c ≡ b → (q ≡ p) ⊎ InPairs q ps
         → (InPairs q ps → ((x : Pair) × InPairs x (sweep p.1 ps) × NoWorse x q) ⊎ (p.1 ≤ q.1))
         → (InPairs q ps → ((x : Pair) × InPairs x (sweep c ps) × NoWorse x q) ⊎ (c ≤ q.1))
         → ((x : Pair) × InPairs x (cond b (p ∷ sweep p.1 ps) (sweep c ps)) × NoWorse x q) ⊎ (c ≤ q.1)
-    go true e (inl s) h k = inl (p, inl refl, subst (NoWorse p) (sym s) (le_refl p.0, le_refl p.1))
+    go true e (inl s) h k = inl (p, inl refl, rw s (omega arith))
     go true e (inr j) h k = elim (h j) [
       | inl w ↦ inl (w.0, inr w.1, w.2)
-      | inr le ↦
-          inl (p, inl refl, (first_le (inr j), le))
+      | inr le ↦ inl (p, inl refl, (omega arith))
     ]
     go false e (inl s) h k = inr (let a = ltb-false p.1 c e in let b = ap (λ (z : Pair). z.1) s in omega arith)
     go false e (inr j) h k = k j

@@ -3,7 +3,7 @@
 use Rattle.std.proofs.Common.{◌≡◌, ℕ, zero, suc, ◌<◌, ◌≤◌, inl, inr, List, [], ◌∷◌, Option, Some, true, cond, ltb}
 use Rattle.std.proofs.Common.{arith, refl, sym, ap, ap₂, subst, ◌∙◌, le_refl, le_trans, le_antisymm}
 use Rattle.std.proofs.lemmas.Bool.{cases_lt, lt-ltb, le-ltb}
-use Rattle.cps_theory.specs.RankLists.{Distinct, In, IsRank, upto}
+use Rattle.cps_theory.specs.RankLists.{In, IsRank, upto}
 use Rattle.cps_theory.specs.Retiming.{IsFirstOpen}
 use Rattle.cps_theory.specs.LandingTrail.{Landed}
 use Rattle.cps_theory.specs.Labels.{NeverCheaper, NoWorse, Pair}
@@ -26,30 +26,28 @@ same_insert t u x (y ∷ ys) h =
 same_test : (a b c d : ℕ) → (a < b → c < d) → (c < d → a < b) → ltb a b ≡ ltb c d
 same_test a b c d h k = elim (cases_lt a b) [
   | inl lt ↦ lt-ltb a b lt ∙ sym (lt-ltb c d (h lt))
-  | inr le ↦ le-ltb a b le ∙ sym
-      (le-ltb c d (elim (cases_lt c d) [ inl lt ↦ absurd (let q = k lt in omega arith) | inr le' ↦ le' ]))
+  | inr le ↦ le-ltb a b le ∙ sym (le-ltb c d (elim (cases_lt c d) [ inl lt ↦ absurd (omega arith) | inr le' ↦ le' ]))
 ]
 
 same_sorted : (n : ℕ) (t u : ℕ → ℕ) → SameOrder n t u → sorted t n ≡ sorted u n
 same_sorted zero t u same = refl
 same_sorted (suc n) t u same =
-    same_insert t u (suc n) (sorted t n) (λ y i. let q = sorted_in t n y i in let s =
-    same y (suc n) (q.0, omega arith) (omega arith, omega arith) in same_test (t y) (t (suc n))
-    (u y) (u (suc n)) s.0 s.1)
-    ∙ ap (insert_at u (suc n)) (same_sorted n t u (λ f g qf qg. same f g (qf.0, omega arith) (qg.0, omega arith)))
+    same_insert t u _ _ (λ y i. let q = sorted_in t n y i in let s =
+    same y (suc n) (q.0, omega arith) (omega arith, omega arith) in same_test _ _ _ _ s.0 s.1)
+    ∙ ap (insert_at u (suc n)) (same_sorted n t u (λ f g qf qg. same f g (omega arith) (omega arith)))
 
 pub no_later_at : (t u : ℕ → ℕ) (rs : List ℕ) → NoLater (at_seconds t rs) (at_seconds u rs)
     → (r : ℕ) → In r rs → t r ≤ u r
 no_later_at t u [] n r i = absurd i
-no_later_at t u (x ∷ rs) n r (inl e) = subst (λ z. t z ≤ u z) (sym e) n.1
+no_later_at t u (x ∷ rs) n r (inl e) = rw e n.1
 no_later_at t u (x ∷ rs) n r (inr i) = no_later_at t u rs n.2 r i
 
 pub descends_same : (t u : ℕ → ℕ) (rs : List ℕ) → Descends t rs → Descends u rs → (f g : ℕ)
     → In f rs → In g rs → t f < t g → u f < u g
 descends_same t u [] d e f g i j lt = absurd i
 descends_same t u (x ∷ rs) d e f g (inl s) (inl s') lt = absurd (let a = ap t s in let b = ap t s' in omega arith)
-descends_same t u (x ∷ rs) d e f g (inl s) (inr j) lt = absurd (let a = ap t s in let b = d.0 g j in omega arith)
-descends_same t u (x ∷ rs) d e f g (inr i) (inl s) lt = let a = ap u s in let b = e.0 f i in omega arith
+descends_same t u (x ∷ rs) d e f g (inl s) (inr j) lt = absurd (omega (arith, ap t s))
+descends_same t u (x ∷ rs) d e f g (inr i) (inl s) lt = omega (arith, ap u s)
 descends_same t u (x ∷ rs) d e f g (inr i) (inr j) lt = descends_same t u rs d.1 e.1 f g i j lt
 
 module _ (p : RankedProblem) (sound : SoundProblem p) (first : ℕ → ℕ → Option ℕ)
@@ -62,26 +60,21 @@ module _ (p : RankedProblem) (sound : SoundProblem p) (first : ℕ → ℕ → O
       let n = p.rules.count in
       let rs = sorted t n in
       let l = feasible_lands p t sound f in
-      let e = earliest_least (λ r u. p.is_open r u ≡ true) first (next_from p) opens (next_later p)
-      (at_seconds t rs) l.landed in
+      let e = earliest_least _ _ _ opens (next_later p) _ l.landed in
       let xs = e.0 in
-      let is : earliest first (next_from p) rs ≡ Some xs =
-      ap (earliest first (next_from p)) (sym (ranks_at t rs)) ∙ e.1 in
-      let lands = earliest_lands (λ r u. p.is_open r u ≡ true) first (next_from p) opens rs xs is in
-      let differ = each_fits_distinct p.rules rs (legal_each_fits p.rules rs l.legal) in
+      let is = ap (earliest first (next_from p)) (sym (ranks_at t rs)) ∙ e.1 in
+      let lands = earliest_lands _ _ (next_from p) opens rs xs is in
       let u = second_in xs in
-      let same : at_seconds u rs ≡ xs =
-      ap (at_seconds u) (sym lands.1) ∙ at_second_in xs (subst Distinct (sym lands.1) differ) in
+      let same = ap (at_seconds u) (sym lands.1) ∙ at_second_in xs
+      (rw lands.1 (each_fits_distinct _ rs (legal_each_fits _ rs l.legal))) in
       let la : LandsAllRanks p u rs =
       record {
         legal = l.legal;
         whole = l.whole;
-        landed =
-            subst (Landed (λ r v. p.is_open r v ≡ true) (next_from p)) (sym same) lands.0;
+        landed = subst (Landed (λ r v. p.is_open r v ≡ true) (next_from p)) (sym same) lands.0;
       } in
-      let fu = lands_feasible p u sound rs la in
-      let dt = landed_descends p t sound rs (legal_each_fits p.rules rs l.legal) l.landed in
-      let du = landed_descends p u sound rs (legal_each_fits p.rules rs l.legal) la.landed in
+      let dt = landed_descends p t sound rs (legal_each_fits _ rs l.legal) l.landed in
+      let du = landed_descends p u sound rs (legal_each_fits _ rs l.legal) la.landed in
       let so : SameOrder n t u =
       λ a b qa qb. (
         descends_same t u rs dt du a b (in_sorted t n a qa) (in_sorted t n b qb),
@@ -89,18 +82,15 @@ module _ (p : RankedProblem) (sound : SoundProblem p) (first : ℕ → ℕ → O
       ) in
       let low : (v : ℕ → ℕ) → Feasible p v → SameOrder n t v → (r : ℕ) → IsRank n r → u r ≤ v r = λ v fv sv r q.
       let rv = same_sorted n t v sv in
-      let lv = feasible_lands p v sound fv in
-      let ev = earliest_least (λ r u. p.is_open r u ≡ true) first (next_from p) opens (next_later p)
-      (at_seconds v (sorted v n)) lv.landed in
-      let isv : earliest first (next_from p) rs ≡ Some ev.0 =
-      ap (earliest first (next_from p)) (rv ∙ sym (ranks_at v (sorted v n))) ∙ ev.1 in
-      let eq : xs ≡ ev.0 = some_same xs ev.0 (sym is ∙ isv) in
-      let nl = subst (λ z. NoLater z (at_seconds v (sorted v n))) (sym eq ∙ sym same) ev.2 in
+      let ev = earliest_least _ _ _ opens (next_later p) _ (feasible_lands p v sound fv).landed in
+      let isv = ap (earliest first (next_from p)) (rv ∙ sym (ranks_at v _)) ∙ ev.1 in
+      let nl = subst (λ z. NoLater z (at_seconds v (sorted v n))) (sym (some_same xs _ (sym is ∙ isv)) ∙ sym same)
+      ev.2 in
       let nl' = subst (λ z. NoLater (at_seconds u rs) (at_seconds v z)) (sym rv) nl in
       no_later_at u v rs nl' r (in_sorted t n r q) in (
         u,
         record {
-          feasible = fu;
+          feasible = lands_feasible p u sound rs la;
           least = λ v fv sv. low v fv (λ a b qa qb. let x = so a b qa qb in let y =
               sv a b qa qb in (λ h. y.0 (x.0 h), λ h. x.1 (y.1 h)));
         },
@@ -111,15 +101,14 @@ module _ (p : RankedProblem) (sound : SoundProblem p) (first : ℕ → ℕ → O
 
   greatest_mono : (n : ℕ) (u t : ℕ → ℕ) → ((r : ℕ) → IsRank n r → u r ≤ t r) → greatest u n ≤ greatest t n
   greatest_mono zero u t h = le_refl 0
-  greatest_mono (suc n) u t h = let a = greatest_mono n u t (λ r q. h r (q.0, omega arith)) in let b =
-      h (suc n) (omega arith, omega arith) in omega arith
+  greatest_mono (suc n) u t h = omega (arith, greatest_mono n u t (λ r q. h r (q.0, omega arith)))
 
   total_mono : (cost : ℕ → ℕ → ℕ) → NeverCheaper cost → (n : ℕ) (u t : ℕ → ℕ) → ((r : ℕ) → IsRank n r → u r ≤ t r)
       → total (λ r. cost r (u r)) (upto n) ≤ total (λ r. cost r (t r)) (upto n)
   total_mono cost dearer zero u t h = le_refl 0
   total_mono cost dearer (suc n) u t h =
-      let a = total_mono cost dearer n u t (λ r q. h r (q.0, omega arith)) in
-      let b = dearer.mono (suc n) (u (suc n)) (t (suc n)) (h (suc n) (omega arith, omega arith)) in
+      let a = total_mono _ dearer n u t (λ r q. h r (q.0, omega arith)) in
+      let b = dearer.mono (suc n) (u (suc n)) (t (suc n)) (omega arith) in
       omega arith
 
   -- of a feasible schedule of least value, the earliest landings in its order are a best and tight schedule
@@ -133,12 +122,11 @@ module _ (p : RankedProblem) (sound : SoundProblem p) (first : ℕ → ℕ → O
       let n = p.rules.count in
       let w = tighten t f in
       let le = mono (second_and_cost cost n w.0) (second_and_cost cost n t)
-      (greatest_mono n w.0 t w.3, total_mono cost dearer n w.0 t w.3) in (
+      (greatest_mono n w.0 t w.3, total_mono _ dearer n w.0 t w.3) in (
         w.0,
         record { feasible = w.1.feasible; least = λ u fu. le_trans le (least u fu) },
         w.1,
-        le_antisymm le
-            (least w.0 w.1.feasible),
+        le_antisymm le (least w.0 w.1.feasible),
       )
 
 -- an order has at most one tight map

@@ -1,5 +1,5 @@
 -- Dropping pairs that another is no worse than leaves one no later and no dearer for each.
-use Rattle.std.proofs.Common.{◌≡◌, ◌⊎◌, inl, inr, List, [], ◌∷◌, Bool, true, false, cond, leb, refl, sym, subst}
+use Rattle.std.proofs.Common.{◌≡◌, ◌⊎◌, inl, inr, List, [], ◌∷◌, Bool, true, false, cond, leb, refl}
 use Rattle.std.proofs.Common.{le_refl}
 use Rattle.std.proofs.lemmas.Bool.{and_parts, leb-true, false≢true}
 use Rattle.cps_theory.specs.Labels.{InPairs, NoWorse, Pair, no_worse}
@@ -10,19 +10,19 @@ no_worse_true p q e = let a = and_parts (leb p.0 q.0) (leb p.1 q.1) e in (leb-tr
 
 without_covers : (p q : Pair) (qs : List Pair) → InPairs q qs → NoWorse p q ⊎ InPairs q (without p qs)
 without_covers p q [] i = absurd i
-without_covers p q (x ∷ qs) i = go (no_worse p x) refl i (without_covers p q qs)
+without_covers p q (x ∷ qs) i = go _ refl i (without_covers p q qs)
   where
     go : (b : Bool) → no_worse p x ≡ b → (q ≡ x) ⊎ InPairs q qs
         → (InPairs q qs → NoWorse p q ⊎ InPairs q (without p qs)) → NoWorse p q
         ⊎ InPairs q (cond b (without p qs) (x ∷ without p qs))
-    go true e (inl s) ih = inl (subst (NoWorse p) (sym s) (no_worse_true p x e))
+    go true e (inl s) ih = inl (rw s (no_worse_true p x e))
     go true e (inr i) ih = ih i
     go false e (inl s) ih = inr (inl s)
     go false e (inr i) ih = elim (ih i) [ inl l ↦ inl l | inr j ↦ inr (inr j) ]
 
 some_in : (p : Pair) (qs : List Pair) → some_no_worse p qs ≡ true → (q : Pair) × InPairs q qs × NoWorse q p
 some_in p [] e = absurd (false≢true e)
-some_in p (x ∷ qs) e = go (no_worse x p) refl e (some_in p qs)
+some_in p (x ∷ qs) e = go _ refl e (some_in p qs)
   where
     go : (b : Bool) → no_worse x p ≡ b → cond b true (some_no_worse p qs) ≡ true
         → (some_no_worse p qs ≡ true → (q : Pair) × InPairs q qs × NoWorse q p) → (q : Pair)
@@ -31,15 +31,14 @@ some_in p (x ∷ qs) e = go (no_worse x p) refl e (some_in p qs)
     go false e t ih = let r = ih t in (r.0, inr r.1, r.2)
 
 pub add_covers : (p : Pair) (qs : List Pair) → Covers (p ∷ qs) (add_pair p qs)
-add_covers p qs = λ q i. go (some_no_worse p qs) refl q i
+add_covers p qs = λ q i. go _ refl q i
   where
     go : (b : Bool) → some_no_worse p qs ≡ b → (q : Pair) → (q ≡ p) ⊎ InPairs q qs
         → (o : Pair) × InPairs o (cond b qs (p ∷ without p qs)) × NoWorse o q
-    go true e q (inl s) = let r = some_in p qs e in (r.0, r.1, subst (NoWorse r.0) (sym s) r.2)
+    go true e q (inl s) = let r = some_in p qs e in (r.0, r.1, rw s r.2)
     go true e q (inr i) = (q, i, (le_refl q.0, le_refl q.1))
-    go false e q (inl s) = (p, inl refl, subst (NoWorse p) (sym s) (le_refl p.0, le_refl p.1))
+    go false e q (inl s) = (p, inl refl, rw s (le_refl p.0, le_refl p.1))
     go false e q (inr i) = elim (without_covers p q qs i) [
       | inl l ↦ (p, inl refl, l)
-      | inr j ↦
-          (q, inr j, (le_refl q.0, le_refl q.1))
+      | inr j ↦ (q, inr j, (le_refl q.0, le_refl q.1))
     ]

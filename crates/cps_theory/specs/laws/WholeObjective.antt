@@ -16,11 +16,11 @@ latest_bound t (f ∷ fs) m h = let a = h f (inl refl) in let b = latest_bound t
 
 pub latest_at : (t : ℕ → ℕ) (fs : List ℕ) (f : ℕ) → In f fs → t f ≤ latest_in t fs
 latest_at t [] f i = absurd i
-latest_at t (x ∷ fs) f (inl e) = let a = ap t e in omega arith
-latest_at t (x ∷ fs) f (inr i) = let a = latest_at t fs f i in omega arith
+latest_at t (x ∷ fs) f (inl e) = omega (arith, ap t e)
+latest_at t (x ∷ fs) f (inr i) = omega (arith, latest_at t fs f i)
 
 pub sum_append : (g : ℕ → ℕ) (xs ys : List ℕ) → sum_by g (xs ++ ys) ≡ sum_by g xs + sum_by g ys
-sum_append g [] ys = let z = sum_by g ys in omega arith
+sum_append g [] ys = omega arith
 sum_append g (x ∷ xs) ys = let a = sum_by-cons g x (xs ++ ys) in let b = sum_by-cons g x xs in let c =
     sum_append g xs ys in omega arith
 
@@ -36,23 +36,19 @@ same_objectives s p at sound of t f = record {
       (latest_bound t (active s) (latest_in s.frozen_at s.frozen) (λ x i. elim (in_append x s.frozen s.waiting i) [
         | inl j ↦ (let e = f.kept x j in let a = latest_at s.frozen_at s.frozen x j in omega arith)
         | inr j ↦ absurd (let w = of.at_all x j in let a = w.1.0 in let b = w.1.1 in omega arith)
-      ]))
-      (latest_bound s.frozen_at s.frozen (latest_in t (active s)) (λ x j. let e = f.kept x j in let a =
+      ])) (latest_bound s.frozen_at s.frozen (latest_in t (active s)) (λ x j. let e = f.kept x j in let a =
       latest_at t (active s) x (append_in x s.frozen s.waiting (inl j)) in omega arith));
-  some_wait = λ some. le_antisymm
-      (latest_bound t (active s) (greatest (λ r. t (at r)) p.rules.count)
+  some_wait = λ some. le_antisymm (latest_bound t (active s) (greatest (λ r. t (at r)) p.rules.count)
       (λ x i. elim (in_append x s.frozen s.waiting i) [
         | inl j ↦
             (let e = f.kept x j in
-            let b = sound.frozen_before x j in
-            let one : IsRank p.rules.count 1 = (omega arith, some) in
+            let one : IsRank p.rules.count 1 = omega arith in
             let h = f.behind (at 1) (of.at_in 1 one) in
             let a = at_most_greatest (λ r. t (at r)) p.rules.count 1 one in
             omega arith)
         | inr j ↦ (let w = of.at_all x j in let a = at_most_greatest (λ r. t (at r)) p.rules.count w.0 w.1 in let e =
             ap t w.2 in omega arith)
-      ]))
-      (greatest_least (λ r. t (at r)) p.rules.count (latest_in t (active s))
+      ])) (greatest_least (λ r. t (at r)) p.rules.count (latest_in t (active s))
       (λ r q. latest_at t (active s) (at r) (append_in (at r) s.frozen s.waiting (inr (of.at_in r q)))));
   delays = λ cost. sum_append (λ x. cost x (t x)) s.frozen s.waiting
       ∙ ap₂ ◌+◌ (sum_agree (λ x. cost x (t x)) (λ x. cost x (s.frozen_at x)) s.frozen (λ x i. ap (cost x) (f.kept x i)))

@@ -1,6 +1,6 @@
 -- A list of seconds by rank costs what its map does, and is best or tight where its map is.
 use Rattle.std.proofs.Common.{◌≡◌, ℕ, zero, suc, ◌+◌, ◌<◌, ◌≤◌, List, [], ◌∷◌, length, get_or, map, max, arith, refl}
-use Rattle.std.proofs.Common.{sym, ap, ap₂, ◌∙◌, le_antisymm}
+use Rattle.std.proofs.Common.{sym, ap, ap₂, ◌∙◌}
 use Rattle.std.specs.Prelude.{sum_by}
 use Rattle.std.specs.List.{AllZip, zip}
 use Rattle.std.proofs.lemmas.List.Elements.{AllZip-get_or}
@@ -25,11 +25,11 @@ use Rattle.cps_theory.specs.laws.WholeObjective.{sum_agree}
 greatest_shift : (x : ℕ) (xs : List ℕ) (n : ℕ)
     → greatest (of_rank 0 (x ∷ xs)) (suc n) ≡ max x (greatest (of_rank 0 xs) n)
 greatest_shift x xs zero = omega arith
-greatest_shift x xs (suc n) = let a = greatest_shift x xs n in omega arith
+greatest_shift x xs (suc n) = omega (arith, greatest_shift x xs n)
 
 greatest_is : (v : Schedule) → rules.greatest v ≡ greatest (of_rank 0 v) (length v)
 greatest_is [] = refl
-greatest_is (x ∷ xs) = ap (max x) (greatest_is xs) ∙ sym (greatest_shift x xs (length xs))
+greatest_is (x ∷ xs) = ap (max x) (greatest_is xs) ∙ sym (greatest_shift x xs _)
 
 total_sum : (f : ℕ → ℕ) (rs : List ℕ) → total f rs ≡ sum_by f rs
 total_sum f [] = refl
@@ -47,31 +47,24 @@ module _ (p : lists'.Problem) (v : Schedule) (long : length v ≡ length p.fligh
   delay_one : (r : ℕ) → IsRank (length p.flights) r
       → lists'.list_delay (of_rank (no_waiting, 0) (zip p.flights v) r) ≡ cost_by Delay (of_rank no_waiting p.flights r)
       (of_rank 0 v r)
-  delay_one zero q = absurd (let a = q.0 in omega arith)
-  delay_one (suc i) q = let b =
-      q.1 in ap lists'.list_delay (get_or-zip p.flights v i (no_waiting, 0) (omega arith) (omega arith))
+  delay_one zero q = omega arith
+  delay_one (suc i) q = ap lists'.list_delay (get_or-zip _ v i (no_waiting, 0) (omega arith) (omega arith))
 
   delay_is : sum_by lists'.list_delay (zip p.flights v) ≡ total
       (λ r. cost_by Delay (of_rank no_waiting p.flights r) (of_rank 0 v r)) (upto (length p.flights))
   delay_is =
-      let n : length pairs ≡ length p.flights = let a = length-zip p.flights v in omega arith in
+      let n : length pairs ≡ length p.flights = omega (arith, length-zip p.flights v) in
       let D = λ (r : ℕ). cost_by Delay (of_rank no_waiting p.flights r) (of_rank 0 v r) in
-      let a : sum_by lists'.list_delay pairs ≡ sum_by lists'.list_delay
-      (map (of_rank (no_waiting, 0) pairs) (upto (length pairs))) = sum_by-IsPermutation lists'.list_delay
-      (map (of_rank (no_waiting, 0) pairs) (upto (length pairs))) pairs (ranks_permute (no_waiting, 0) pairs) in
-      let b : sum_by lists'.list_delay (map (of_rank (no_waiting, 0) pairs) (upto (length pairs))) ≡ sum_by
-      (λ r. lists'.list_delay (of_rank (no_waiting, 0) pairs r)) (upto (length p.flights)) =
-      sum_map lists'.list_delay (of_rank (no_waiting, 0) pairs) (upto (length pairs))
+      let a = sum_by-IsPermutation _ _ _ (ranks_permute _ pairs) in
+      let b =
+      sum_map _ _ (upto (length pairs))
       ∙ ap (λ k. sum_by (λ r. lists'.list_delay (of_rank (no_waiting, 0) pairs r)) (upto k)) n in
-      let c : sum_by (λ r. lists'.list_delay (of_rank (no_waiting, 0) pairs r)) (upto (length p.flights)) ≡ sum_by D
-      (upto (length p.flights)) =
-      sum_agree (λ r. lists'.list_delay (of_rank (no_waiting, 0) pairs r)) D (upto (length p.flights))
-      (λ r i. delay_one r (in_upto (length p.flights) r i)) in
-      a ∙ b ∙ c ∙ sym (total_sum D (upto (length p.flights)))
+      let c = sum_agree _ D _ (λ r i. delay_one r (in_upto _ r i)) in
+      a ∙ b ∙ c ∙ sym (total_sum D _)
 
   -- a list costs what its map does
   pub list_value : lists'.list_objective p v ≡ value_of_map p (of_rank 0 v)
-  list_value = go p.objective refl
+  list_value = go _ refl
     where
       makespan_is : (fs : List lists'.Waiting) → length v ≡ length fs
           → lists'.list_cost Makespan p v ≡ makespan_by fs p (greatest (of_rank 0 v) (length fs))
@@ -83,22 +76,14 @@ module _ (p : lists'.Problem) (v : Schedule) (long : length v ≡ length p.fligh
           by [] [] e g = refl
           by [] (f ∷ fs) e g = absurd (omega arith)
           by (x ∷ u) [] e g = absurd (omega arith)
-          by (x ∷ u) (f ∷ fs) e g = g ∙ ap (greatest (of_rank 0 (x ∷ u))) e
+          by (x ∷ u) (f ∷ fs) e g = cc
 
       go : (o : Objective) → p.objective ≡ o → lists'.list_objective p v ≡ value_of_map p (of_rank 0 v)
-      go Makespan e =
-          ap (λ o. lists'.list_cost o p v) e ∙ makespan_is p.flights long
+      go Makespan e = ap (λ o. lists'.list_cost o p v) e ∙ makespan_is _ long ∙ sym (cc)
+      go Delay e = ap (λ o. lists'.list_cost o p v) e ∙ ap (λ n. p.base + n) delay_is
           ∙ sym (ap (λ o. value_by o p (
             greatest (of_rank 0 v) (length p.flights),
-            total
-                (λ r. cost_by o (of_rank no_waiting p.flights r) (of_rank 0 v r)) (upto (length p.flights)),
-          )) e)
-      go Delay e =
-          ap (λ o. lists'.list_cost o p v) e ∙ ap (λ n. p.base + n) delay_is
-          ∙ sym (ap (λ o. value_by o p (
-            greatest (of_rank 0 v) (length p.flights),
-            total
-                (λ r. cost_by o (of_rank no_waiting p.flights r) (of_rank 0 v r)) (upto (length p.flights)),
+            total (λ r. cost_by o (of_rank no_waiting p.flights r) (of_rank 0 v r)) (upto (length p.flights)),
           )) e)
 
 -- ---- lists that are nowhere later
@@ -114,12 +99,12 @@ pub zip_same : (xs ys : List ℕ) → AllZip (λ a b. a ≤ b) xs ys → AllZip 
 zip_same [] [] a b = refl
 zip_same [] (y ∷ ys) a b = absurd a
 zip_same (x ∷ xs) [] a b = absurd a
-zip_same (x ∷ xs) (y ∷ ys) a b = ap₂ (λ z l. z ∷ l) (le_antisymm a.0 b.0) (zip_same xs ys a.1 b.1)
+zip_same (x ∷ xs) (y ∷ ys) a b = ap₂ (λ z l. z ∷ l) (omega arith) (zip_same xs ys a.1 b.1)
 
 pub zip_rank : (xs ys : Schedule) → AllZip (λ a b. a ≤ b) xs ys → (r : ℕ) → IsRank (length xs) r
     → of_rank 0 xs r ≤ of_rank 0 ys r
-zip_rank xs ys a zero q = absurd (let b = q.0 in omega arith)
-zip_rank xs ys a (suc i) q = AllZip-get_or (λ a b. a ≤ b) xs ys i 0 0 a (let b = q.1 in omega arith)
+zip_rank xs ys a zero q = omega arith
+zip_rank xs ys a (suc i) q = AllZip-get_or _ xs ys i 0 0 a (omega (arith, q.1))
 
 -- ---- best and tight lists
 
@@ -139,17 +124,16 @@ module _ (p : lists'.Problem) (passed : (r : ℕ) → IsRank (length p.flights) 
 
   same_order : (v u : Schedule) → length v ≡ length p.flights → rules.HaveSameOrder v u
       → SameOrder (length p.flights) (of_rank 0 v) (of_rank 0 u)
-  same_order v u long o zero g qf qg = absurd (let a = qf.0 in omega arith)
-  same_order v u long o (suc i) zero qf qg = absurd (let a = qg.0 in omega arith)
-  same_order v u long o (suc i) (suc j) qf qg = let a = qf.1 in let b = qg.1 in let w =
-      o i j (omega arith) (omega arith) in (w.0, w.1)
+  same_order v u long o zero g qf qg = omega arith
+  same_order v u long o (suc i) zero qf qg = omega arith
+  same_order v u long o (suc i) (suc j) qf qg = let w = o i j (omega arith) (omega arith) in (w.0, w.1)
 
   -- a list whose map is tight is tight
   pub tight_list : (v : Schedule) → length v ≡ length p.flights → Tight (ranked p) (of_rank 0 v)
       → lists'.IsTightList p v
   tight_list v long t = record {
     feasible = feasible_list p passed v long t.feasible;
-    earliest = λ u f o. let n = f.one_each in zip_of v u (omega arith)
+    earliest = λ u f o. zip_of v u (omega arith)
         (λ i lt. t.least (of_rank 0 u) (list_feasible p u f) (same_order v u long o) (suc i)
         (omega arith, omega arith));
   }

@@ -29,7 +29,7 @@ use Rattle.cps_theory.specs.laws.FirstBestExists.{first_best_exists}
 use Rattle.cps_theory.specs.laws.NumberedLists.{in_numbers, numbers_in, distinct_numbers}
 use Rattle.cps_theory.specs.laws.OrderBySeconds.{in_order_sorted}
 use Rattle.landing_joint.specs.RankedProblem.{no_waiting, ranked, value_at, value_by, value_of_map, cost_at, cost_by}
-use Rattle.landing_joint.specs.RankedProblem.{first_at, makespan_by}
+use Rattle.landing_joint.specs.RankedProblem.{makespan_by}
 use Rattle.landing_joint.specs.shared.FirstOpen.{is_first_open}
 use Rattle.landing_joint.specs.shared.RankedLists.{list_feasible, feasible_list, feasible_agree}
 use Rattle.landing_joint.specs.shared.BestLists.{best_list, tight_list, list_value, zip_rank, zip_same}
@@ -51,10 +51,10 @@ no_greater_no_later (x ∷ xs) (y ∷ ys) (inr n) = ap (λ o. is_le (ordering_th
 -- two orders of which none comes later are one
 pub no_later_antisym : (xs ys : List ℕ) → ComesNoLater xs ys → ComesNoLater ys xs → xs ≡ ys
 no_later_antisym xs ys a b = (bytes_eq-Decides xs ys).0 (sym (is_eq-slice_cmp xs ys)
-    ∙ ap is_eq (go (slice_cmp nat_cmp xs ys) (slice_cmp nat_cmp ys xs) (nat_list_cmp_total.antisymm ys xs) a b))
+    ∙ ap is_eq (go _ _ (nat_list_cmp_total.antisymm ys xs) a b))
   where
     go : (o r : Ordering) → r ≡ ordering_reverse o → is_le o ≡ true → is_le r ≡ true → o ≡ Equal
-    go Less r e h k = absurd (false≢true (sym (ap is_le e) ∙ k))
+    go Less r e h k = cc
     go Equal r e h k = refl
     go Greater r e h k = absurd (false≢true h)
 
@@ -62,7 +62,7 @@ no_later_antisym xs ys a b = (bytes_eq-Decides xs ys).0 (sym (is_eq-slice_cmp xs
 
 ranks_are : (r : ℕ) (us : List ℕ) → ranks_from r us ≡ numbers_from r (length us)
 ranks_are r [] = refl
-ranks_are r (u ∷ us) = ap (λ l. r ∷ l) (ap (λ q. ranks_from q us) (add-one r) ∙ ranks_are (suc r) us)
+ranks_are r (u ∷ us) = ap (λ l. r ∷ l) (ap (λ q. ranks_from q us) (add-one r) ∙ ranks_are _ us)
 
 pub second_is : (v : Schedule) (r : ℕ) → 1 ≤ r → second_at v r ≡ of_rank 0 v r
 second_is v zero q = absurd (omega arith)
@@ -71,17 +71,16 @@ second_is v (suc i) q = ap (λ k. get_or v k 0) {x = suc i - 1} {y = i} (omega a
 module _ (p : lists'.Problem) (sound : SoundProblem (ranked p)) where
   in_ranks : (v : Schedule) → length v ≡ length p.flights → (r : ℕ) → In r (ranks_from 1 v)
       → IsRank (length p.flights) r
-  in_ranks v long r i = let b = in_numbers 1 (length v) r (subst (In r) (ranks_are 1 v) i) in
-      (b.0, let x = b.1 in omega arith)
+  in_ranks v long r i = let b = in_numbers 1 _ r (rw (ranks_are 1 v) at i) in
+      (omega arith)
 
   ranks_in : (v : Schedule) → length v ≡ length p.flights → (r : ℕ) → IsRank (length p.flights) r
       → In r (ranks_from 1 v)
-  ranks_in v long r q = subst (In r) (sym (ranks_are 1 v)) (numbers_in 1 (length v) r q.0 (let x = q.1 in omega arith))
+  ranks_in v long r q = rw (ranks_are 1 v) (numbers_in 1 _ r q.0 (omega arith))
 
   differ : (t : ℕ → ℕ) → Feasible (ranked p) t → (q r : ℕ) → IsRank (length p.flights) q → IsRank (length p.flights) r
       → q ≢ r → t q ≢ t r
-  differ t f q r iq ir ne e = let a = f.separated q r iq ir ne (omega arith) in let b =
-      sound.positive q r in omega arith
+  differ t f q r iq ir ne e = omega (arith, sound.positive q r)
 
   -- the ranks as a feasible list lands them
   pub list_in_landing_order : (v : Schedule) → lists'.IsFeasibleList p v
@@ -91,26 +90,24 @@ module _ (p : lists'.Problem) (sound : SoundProblem (ranked p)) where
       let rs = ranks_from 1 v in
       let long = f.one_each in
       let g = list_feasible p v f in
-      let d = subst Distinct (sym (ranks_are 1 v)) (distinct_numbers 1 (length v)) in
+      let d = subst Distinct (sym (ranks_are 1 v)) (distinct_numbers 1 _) in
       let ne : (q r : ℕ) → In q rs → In r rs → q ≢ r → t q ≢ t r = λ q r i j n e.
       let iq = in_ranks v long q i in
       let ir = in_ranks v long r j in
-      differ (of_rank 0 v) g q r iq ir n (sym (second_is v q iq.0) ∙ e ∙ second_is v r ir.0) in
-      let a = sorted_by_ascends t rs d ne in
+      differ _ g q r iq ir n (sym (second_is v q iq.0) ∙ e ∙ second_is v r ir.0) in
       record {
         ranked = λ x i. in_ranks v long x (in_sorted_by t x rs i);
         whole = λ x q. sorted_by_in t x rs (ranks_in v long x q);
         ascends = subst (Ascends (of_rank 0 v)) (map-id (order_of_list v))
             (map_ascends t (of_rank 0 v) (λ x. x) (order_of_list v)
-            (λ x i. sym (second_is v x (in_ranks v long x (in_sorted_by t x rs i)).0)) a);
+            (λ x i. sym (second_is v x (in_ranks v long x (in_sorted_by t x rs i)).0)) (sorted_by_ascends t rs d ne));
       }
 
   -- there is one such order
   pub one_landing_order : (t : ℕ → ℕ) → Feasible (ranked p) t → (qs os : List ℕ)
       → InLandingOrder (length p.flights) t qs → InLandingOrder (length p.flights) t os → qs ≡ os
   one_landing_order t f qs os a b =
-      let e : onto qs [] ≡ onto os [] = in_order_sorted (ranked p) t sound f qs a
-      ∙ sym (in_order_sorted (ranked p) t sound f os b) in
+      let e = in_order_sorted _ t sound f qs a ∙ sym (in_order_sorted _ t sound f os b) in
       sym (onto_twice qs []) ∙ ap (λ l. onto l []) e ∙ onto_twice os []
 
 -- ---- a map as a list
@@ -120,42 +117,40 @@ list_of n t = map t (numbers_from 1 n)
 
 pub numbers_long : {X : Type 0} (t : ℕ → X) (b n : ℕ) → length (map t (numbers_from b n)) ≡ n
 numbers_long t b zero = refl
-numbers_long t b (suc n) = ap suc (numbers_long t (suc b) n)
+numbers_long t b (suc n) = ap suc (numbers_long t _ n)
 
 pub numbers_get : {X : Type 0} (t : ℕ → X) (d : X) (b n i : ℕ) → i < n
     → get_or (map t (numbers_from b n)) i d ≡ t (b + i)
 numbers_get t d b zero i lt = absurd (omega arith)
 numbers_get t d b (suc n) zero lt = ap t (omega arith)
-numbers_get t d b (suc n) (suc i) lt = numbers_get t d (suc b) n i (omega arith) ∙ ap t (omega arith)
+numbers_get t d b (suc n) (suc i) lt = numbers_get t d _ n i (omega arith) ∙ ap t (omega arith)
 
 pub list_of_long : (n : ℕ) (t : ℕ → ℕ) → length (list_of n t) ≡ n
 list_of_long n t = numbers_long t 1 n
 
 pub list_of_at : (n : ℕ) (t : ℕ → ℕ) (r : ℕ) → IsRank n r → of_rank 0 (list_of n t) r ≡ t r
-list_of_at n t zero q = absurd (let a = q.0 in omega arith)
-list_of_at n t (suc i) q = let a = q.1 in numbers_get t 0 1 n i (omega arith) ∙ ap t (omega arith)
+list_of_at n t zero q = omega arith
+list_of_at n t (suc i) q = numbers_get t 0 1 n i (omega arith) ∙ ap t (omega arith)
 
 greatest_agree : (n : ℕ) (t u : ℕ → ℕ) → ((r : ℕ) → IsRank n r → t r ≡ u r) → greatest t n ≡ greatest u n
 greatest_agree zero t u h = refl
-greatest_agree (suc n) t u h =
-    ap₂ max (h (suc n) (omega arith, omega arith)) (greatest_agree n t u (λ r q. h r (q.0, let a = q.1 in omega arith)))
+greatest_agree (suc n) t u h = ap₂ max (omega arith) (greatest_agree n t u (λ r q. h r (omega arith)))
 
 total_agree : (cost : ℕ → ℕ → ℕ) (n : ℕ) (t u : ℕ → ℕ) → ((r : ℕ) → IsRank n r → t r ≡ u r)
     → total (λ r. cost r (t r)) (upto n) ≡ total (λ r. cost r (u r)) (upto n)
 total_agree cost zero t u h = refl
-total_agree cost (suc n) t u h = ap₂ (λ x y. x + y) (ap (cost (suc n)) (h (suc n) (omega arith, omega arith)))
-    (total_agree cost n t u (λ r q. h r (q.0, let a = q.1 in omega arith)))
+total_agree cost (suc n) t u h = ap₂ (λ x y. x + y) (ap (cost (suc n)) (omega arith))
+    (total_agree cost n t u (λ r q. h r (omega arith)))
 
 pub value_agree : (p : lists'.Problem) (t u : ℕ → ℕ) → ((r : ℕ) → IsRank (length p.flights) r → t r ≡ u r)
     → value_of_map p t ≡ value_of_map p u
-value_agree p t u h = ap₂ (λ x y. value_at p (x, y)) (greatest_agree (length p.flights) t u h)
-    (total_agree (cost_at p) (length p.flights) t u h)
+value_agree p t u h = ap₂ (λ x y. value_at p (x, y)) (greatest_agree _ t u h) (total_agree (cost_at p) _ t u h)
 
 -- ---- costs and values
 
 pub cost_rises : (o : Objective) (f : lists'.Waiting) (t u : ℕ) → t ≤ u → cost_by o f t ≤ cost_by o f u
 cost_rises Makespan f t u le = omega arith
-cost_rises Delay f t u le = mul-le-mul_left f.weight (omega arith)
+cost_rises Delay f t u le = mul-le-mul_left _ (omega arith)
 
 -- a later landing of a flight costs no less
 pub costs_rise : (p : lists'.Problem) → NeverCheaper (cost_at p)
@@ -166,21 +161,19 @@ last_rises p [] t u le = omega arith
 last_rises p (f ∷ fs) t u le = le
 
 pub value_rises_by : (p : lists'.Problem) (o : Objective) (a b : Pair) → NoWorse a b → value_by o p a ≤ value_by o p b
-value_rises_by p Makespan a b le = last_rises p p.flights a.0 b.0 le.0
-value_rises_by p Delay a b le = let x = le.1 in omega arith
+value_rises_by p Makespan a b le = last_rises p _ a.0 b.0 le.0
+value_rises_by p Delay a b le = omega (arith, le.1)
 
 -- a pair that is no worse has no greater value
 pub value_rises : (p : lists'.Problem) (a b : Pair) → NoWorse a b → value_at p a ≤ value_at p b
-value_rises p a b le = value_rises_by p p.objective a b le
+value_rises p a b le = value_rises_by p _ a b le
 
 -- ---- best and tight lists
 
 module _ (p : lists'.Problem) (sound : SoundProblem (ranked p)) (passed : (r : ℕ) → IsRank (length p.flights) r
     → (of_rank no_waiting p.flights r).passed ≤ p.k) where
   listed : (u : ℕ → ℕ) → Feasible (ranked p) u → lists'.IsFeasibleList p (list_of (length p.flights) u)
-  listed u f = feasible_list p passed (list_of (length p.flights) u) (list_of_long (length p.flights) u)
-      (feasible_agree (ranked p) u (of_rank 0 (list_of (length p.flights) u))
-      (λ r q. sym (list_of_at (length p.flights) u r q)) f)
+  listed u f = feasible_list p passed _ (list_of_long _ u) (feasible_agree _ u _ (λ r q. sym (list_of_at _ u r q)) f)
 
   -- the map of a best list is best
   pub list_best : (v : Schedule) → lists'.IsBestList p v → IsBest (ranked p) (value_of_map p) (of_rank 0 v)
@@ -198,12 +191,12 @@ module _ (p : lists'.Problem) (sound : SoundProblem (ranked p)) (passed : (r : �
   order_listed : (v : Schedule) (u : ℕ → ℕ) → length v ≡ length p.flights → SameOrder (length p.flights) (of_rank 0 v) u
       → rules.HaveSameOrder v (list_of (length p.flights) u)
   order_listed v u long same i j li lj =
-      let qi : IsRank (length p.flights) (suc i) = (omega arith, omega arith) in
-      let qj : IsRank (length p.flights) (suc j) = (omega arith, omega arith) in
-      let ei : get_or (list_of (length p.flights) u) i 0 ≡ u (suc i) = list_of_at (length p.flights) u (suc i) qi in
-      let ej : get_or (list_of (length p.flights) u) j 0 ≡ u (suc j) = list_of_at (length p.flights) u (suc j) qj in
+      let qi : IsRank (length p.flights) (suc i) = omega arith in
+      let qj : IsRank (length p.flights) (suc j) = omega arith in
+      let ei = list_of_at _ u _ qi in
+      let ej = list_of_at _ u _ qj in
       let o = same (suc i) (suc j) qi qj in
-      (λ lt. let a = o.0 lt in omega (arith, ei, ej, a), λ lt. o.1 (omega (arith, ei, ej, lt)))
+      (λ lt. omega (arith, ei, ej, o.0 lt), λ lt. o.1 (omega (arith, ei, ej, lt)))
 
   -- the map of a tight list is tight
   pub list_tight : (v : Schedule) → lists'.IsTightList p v → Tight (ranked p) (of_rank 0 v)
@@ -212,11 +205,7 @@ module _ (p : lists'.Problem) (sound : SoundProblem (ranked p)) (passed : (r : �
     least = λ u f same r q.
         let w = list_of (length p.flights) u in
         let long = t.feasible.one_each in
-        let a = zip_rank v w (t.earliest w (listed u f) (order_listed v u long same)) r (
-          q.0,
-          let x =
-              q.1 in omega arith,
-        ) in
+        let a = zip_rank v w (t.earliest w (listed u f) (order_listed v u long same)) r (q.0, omega arith) in
         let e = list_of_at (length p.flights) u r q in
         omega arith;
   }
@@ -240,21 +229,18 @@ module _ (p : lists'.Problem) (sound : SoundProblem (ranked p)) (passed : (r : �
   order_alike : (v w : Schedule) → lists'.IsFeasibleList p v → lists'.IsFeasibleList p w
       → order_of_list v ≡ order_of_list w → rules.HaveSameOrder v w
   order_alike v w f g e i j li lj =
-      let n = f.one_each in
       let iv = list_in_landing_order p sound v f in
       let iw = list_in_landing_order p sound w g in
       let mi = iv.whole (suc i) (omega arith, omega arith) in
       let mj = iv.whole (suc j) (omega arith, omega arith) in
-      let aw : Ascends (of_rank 0 w) (order_of_list v) = subst (Ascends (of_rank 0 w)) (sym e) iw.ascends in (
-        ascends_same (of_rank 0 v) (of_rank 0 w) (order_of_list v) iv.ascends aw (suc i) (suc j) mi mj,
-        ascends_same
-            (of_rank 0 w) (of_rank 0 v) (order_of_list v) aw iv.ascends (suc i) (suc j) mi mj,
+      let aw = subst (Ascends (of_rank 0 w)) (sym e) iw.ascends in (
+        ascends_same _ _ _ iv.ascends aw _ _ mi mj,
+        ascends_same _ _ _ aw iv.ascends _ _ mi mj,
       )
 
   pub first_best_list_is_one : (v w : Schedule) → IsFirstBestList p v → IsFirstBestList p w → v ≡ w
   first_best_list_is_one v w a b =
-      let e = no_later_antisym (order_of_list v) (order_of_list w) (a.first w b.best b.tight)
-      (b.first v a.best a.tight) in
+      let e = no_later_antisym _ _ (a.first w b.best b.tight) (b.first v a.best a.tight) in
       zip_same v w (a.tight.earliest w b.tight.feasible (order_alike v w a.tight.feasible b.tight.feasible e))
       (b.tight.earliest v a.tight.feasible (order_alike w v b.tight.feasible a.tight.feasible (sym e)))
 
@@ -269,17 +255,14 @@ module _ (p : lists'.Problem) (sound : SoundProblem (ranked p)) (passed : (r : �
       first_best_list v (list_of_long n u) (record {
         best = record {
           feasible = feasible_agree (ranked p) u (of_rank 0 v) back b.best.feasible;
-          least = λ w f. let a = value_agree p (of_rank 0 v) u at in let c = b.best.least w f in omega arith;
+          least = λ w f. omega (arith, value_agree p (of_rank 0 v) u at);
         };
         tight = record {
           feasible = feasible_agree (ranked p) u (of_rank 0 v) back b.tight.feasible;
           least = λ w f same r q.
               let a = b.tight.least w f (λ x y ix iy.
-              let ex = at x ix in
-              let ey = at y iy in
               let o = same x y ix iy in
-              (λ lt. o.0 (omega arith), λ lt. let z = o.1 lt in omega arith)) r q in
-              let e = at r q in
+              (λ lt. o.0 (omega arith), λ lt. omega (arith, o.1 lt))) r q in
               omega arith;
         };
         least = λ w bw tw qs os oq ow. b.least w bw tw qs os (record {
@@ -293,6 +276,6 @@ module _ (p : lists'.Problem) (sound : SoundProblem (ranked p)) (passed : (r : �
   -- where a list is feasible there is a first best one
   pub first_best_list_exists : (v : Schedule) → lists'.IsFeasibleList p v → (w : Schedule) × IsFirstBestList p w
   first_best_list_exists v f =
-      let u = first_best_exists (ranked p) sound (first_at p) (is_first_open p) (cost_at p)
-      (costs_rise p) (value_at p) (value_rises p) (of_rank 0 v) (list_feasible p v f) in
+      let u = first_best_exists _ sound _ (is_first_open p) _
+      (costs_rise p) _ (value_rises p) _ (list_feasible p v f) in
       (list_of (length p.flights) u.0, first_best_listed u.0 u.1)

@@ -15,7 +15,7 @@ use Rattle.landing_joint.specs.RankedProblem.{no_waiting, ranked, first_in_span,
 -- ---- one span
 
 span_found : (w : Span) (t u : ℕ) → first_in_span w t ≡ Some u → (is_within u w ≡ true) × (t ≤ u)
-span_found w t u e = go (nat_le w.0 w.1 && nat_le t w.1) refl e
+span_found w t u e = go _ refl e
   where
     go : (b : Bool) → (nat_le w.0 w.1 && nat_le t w.1) ≡ b → cond b (Some (max t w.0)) None ≡ Some u
         → (is_within u w ≡ true) × (t ≤ u)
@@ -24,7 +24,7 @@ span_found w t u e = go (nat_le w.0 w.1 && nat_le t w.1) refl e
         let parts = and_parts (nat_le w.0 w.1) (nat_le t w.1) f in
         let a = leb-true w.0 w.1 parts.0 in
         let b = leb-true t w.1 parts.1 in
-        (and_from (nat_le w.0 u) (nat_le u w.1) (le-leb w.0 u (omega arith)) (le-leb u w.1 (omega arith)), omega arith)
+        (and_from _ _ (le-leb w.0 u (omega arith)) (le-leb u w.1 (omega arith)), omega arith)
     go false f e = cc
 
 span_least : (w : Span) (t v : ℕ) → is_within v w ≡ true → t ≤ v → (u : ℕ) × (first_in_span w t ≡ Some u) × (u ≤ v)
@@ -32,8 +32,7 @@ span_least w t v e le =
     let parts = and_parts (nat_le w.0 v) (nat_le v w.1) e in
     let a = leb-true w.0 v parts.0 in
     let b = leb-true v w.1 parts.1 in
-    let both : (nat_le w.0 w.1 && nat_le t w.1) ≡ true =
-    and_from (nat_le w.0 w.1) (nat_le t w.1) (le-leb w.0 w.1 (omega arith)) (le-leb t w.1 (omega arith)) in
+    let both = and_from _ _ (le-leb w.0 w.1 (omega arith)) (le-leb t w.1 (omega arith)) in
     (max t w.0, ap (λ c. cond c (Some (max t w.0)) None) both, omega arith)
 
 -- ---- all spans
@@ -59,25 +58,25 @@ right_low (Some y) (Some z) x e = (min y z, refl, (let s : z ≡ x = cc in omega
 pub first_open_found : (ws : List Span) (t u : ℕ) → first_open ws t ≡ Some u → (list_any (is_within u) ws ≡ true)
     × (t ≤ u)
 first_open_found [] t u e = cc
-first_open_found (w ∷ ws) t u e = elim (one_of (first_in_span w t) (first_open ws t) u e) [
-  | inl a ↦ (let f = span_found w t u a in (or_left (is_within u w) (list_any (is_within u) ws) f.0, f.1))
-  | inr b ↦ (let f = first_open_found ws t u b in (or_right (is_within u w) (list_any (is_within u) ws) f.0, f.1))
+first_open_found (w ∷ ws) t u e = elim (one_of _ _ u e) [
+  | inl a ↦ (let f = span_found w t u a in (or_left _ _ f.0, f.1))
+  | inr b ↦ (let f = first_open_found ws t u b in (or_right _ _ f.0, f.1))
 ]
 
 pub first_open_least : (ws : List Span) (t v : ℕ) → list_any (is_within v) ws ≡ true → t ≤ v
     → (u : ℕ) × (first_open ws t ≡ Some u) × (u ≤ v)
 first_open_least [] t v e le = absurd (false≢true e)
-first_open_least (w ∷ ws) t v e le = elim (or_cases (is_within v w) (list_any (is_within v) ws) e) [
-  | inl a ↦ (let s = span_least w t v a le in let l = left_low (first_in_span w t) (first_open ws t) s.0 s.1 in
-      (l.0, l.1, (let x = s.2 in let y = l.2 in omega arith)))
-  | inr b ↦ (let s = first_open_least ws t v b le in let l = right_low (first_in_span w t) (first_open ws t) s.0 s.1 in
-      (l.0, l.1, (let x = s.2 in let y = l.2 in omega arith)))
+first_open_least (w ∷ ws) t v e le = elim (or_cases _ _ e) [
+  | inl a ↦ (let s = span_least w t v a le in let l = left_low _ _ s.0 s.1 in
+      (l.0, l.1, (omega arith)))
+  | inr b ↦ (let s = first_open_least ws t v b le in let l = right_low _ _ s.0 s.1 in
+      (l.0, l.1, (omega arith)))
 ]
 
 -- it is the only such answer
 pub first_open_none : (ws : List Span) (t : ℕ) → ((u : ℕ) → t ≤ u → list_any (is_within u) ws ≡ false)
     → None ≡ first_open ws t
-first_open_none ws t none = go (first_open ws t) refl
+first_open_none ws t none = go _ refl
   where
     go : (o : Option ℕ) → first_open ws t ≡ o → None ≡ o
     go None e = refl
@@ -90,7 +89,7 @@ first_open_some ws t x le passes least =
     let f = first_open_found ws t l.0 l.1 in
     elim (cases_lt l.0 x) [
       | inl lt ↦ absurd (false≢true (sym (least l.0 f.1 lt) ∙ f.0))
-      | inr ge ↦ (let a = l.2 in ap Some {x = x} {y = l.0} (omega arith) ∙ sym l.1)
+      | inr ge ↦ (ap Some {x = x} {y = l.0} (omega arith) ∙ sym l.1)
     ]
 
 -- the first open second of a rank of a problem

@@ -11,7 +11,7 @@ use Rattle.cps_theory.specs.Separation.{Landing}
 use Rattle.cps_theory.specs.LandingTrail.{cost_of, latest_landing, pair_of, ranks}
 use Rattle.cps_theory.specs.Labels.{Pair}
 use Rattle.cps_theory.specs.Patterns.{PatternNode, PatternPermits, pattern_newest, pattern_node, pattern_push}
-use Rattle.cps_theory.specs.Feasible.{Feasible, SoundProblem, at_seconds, next_from, second_and_cost, second_in}
+use Rattle.cps_theory.specs.Feasible.{Feasible, SoundProblem, at_seconds, next_from, second_and_cost}
 use Rattle.cps_theory.specs.ProblemNetwork.{LandedIn}
 use Rattle.cps_theory.specs.CompletingPairs.{AllLow, Choice, KeptCompleting, NoEarlierNoDearer}
 use Rattle.cps_theory.specs.FirstBest.{BuiltByLeastChoices, CompletesNode}
@@ -49,11 +49,9 @@ module _ (p : lists'.Problem) (sound : SoundProblem (ranked p)) (passed : (r : �
   no_less : (u : ℕ → ℕ) → Feasible (ranked p) u → v ≤ value_of_map p u
   no_less u f =
       let w = list_of (length p.flights) u in
-      let g = feasible_list p passed w (list_of_long (length p.flights) u)
-      (feasible_agree (ranked p) u (of_rank 0 w) (λ r q. sym (list_of_at (length p.flights) u r q)) f) in
-      let a = value_is.least w g in
-      let b = list_value p w (list_of_long (length p.flights) u) in
-      let c = value_agree p (of_rank 0 w) u (list_of_at (length p.flights) u) in
+      let g = feasible_list p passed w (list_of_long _ u) (feasible_agree _ u _ (λ r q. sym (list_of_at _ u r q)) f) in
+      let b = list_value p w (list_of_long _ u) in
+      let c = value_agree p _ u (list_of_at _ u) in
       omega arith
 
   last_low : (fs : List lists'.Waiting) (xs : List Landing) → length (ranks xs) ≡ length fs
@@ -73,17 +71,16 @@ module _ (p : lists'.Problem) (sound : SoundProblem (ranked p)) (passed : (r : �
       → AllLow (λ t. low_by o v t ≡ true) xs
       × (cost_of (λ r t. cost_by o (of_rank no_waiting p.flights r) t) xs ≤ budget_by o p v)
   within_by Makespan xs l d whole le = (
-    low_true (ranked p) sound (first_at p) (is_first_open p) v xs
-        (landed_low (ranked p) sound (first_at p) (is_first_open p) v xs l d (last_low p.flights xs whole le)),
-    let a = no_cost (ranked p) sound (first_at p) (is_first_open p) xs in omega arith,
+    low_true _ sound _ (is_first_open p) v xs
+        (landed_low _ sound _ (is_first_open p) v xs l d (last_low _ xs whole le)),
+    omega (arith, no_cost _ sound _ (is_first_open p) xs),
   )
-  within_by Delay xs l d whole le = (all_low (ranked p) sound (first_at p) (is_first_open p) xs, omega arith)
+  within_by Delay xs l d whole le = (all_low _ sound _ (is_first_open p) xs, omega arith)
 
   back_by : (o : Objective) (q : Pair) → value_by o p q ≡ v → (xs : List Landing) → AllLow (λ t. low_by o v t ≡ true) xs
       → cost_of (λ r t. cost_by o (of_rank no_waiting p.flights r) t) xs ≤ budget_by o p v
       → value_by o p (pair_of (λ r t. cost_by o (of_rank no_waiting p.flights r) t) xs) ≤ v
-  back_by Makespan q e xs a c =
-      last_back p.flights q.0 (latest_landing xs).1 e (low_last (ranked p) sound (first_at p) (is_first_open p) v xs a)
+  back_by Makespan q e xs a c = last_back _ q.0 _ e (low_last _ sound _ (is_first_open p) v xs a)
   back_by Delay q e xs a c = omega arith
 
   -- ---- the kept pairs of a pattern
@@ -115,13 +112,12 @@ module _ (p : lists'.Problem) (sound : SoundProblem (ranked p)) (passed : (r : �
         by : (q : Pair) → CompletesPattern (node (r ∷ rs)) q → (ls : List Landing) → IsLegal p (ranks ls)
             → LandedIn (ranked p) ls → node (ranks ls) ≡ node (r ∷ rs) → (o : Pair) × KeepsIn (node (r ∷ rs)) o
             × NoEarlierNoDearer o q
-        by q c [] l' d e = absurd (let a = ap (λ (w : PatternNode). w.0) e in omega arith)
+        by q c [] l' d e = absurd (omega (arith, ap (λ (w : PatternNode). w.0) e))
         by q c (x ∷ xs) l' d e =
-            let one = pattern_one p sound (r ∷ rs) (ranks (x ∷ xs)) l l' (sym e) in
-            let done = completes_one p sound v (r ∷ rs) (ranks (x ∷ xs)) q l l' one
-            (node_completes p sound v (r ∷ rs) q l c) in
+            let done = completes_one p sound v _ _ q l l' (pattern_one p sound (r ∷ rs) _ l l' (sym e))
+            (node_completes p sound v _ q l c) in
             let o = (kept x xs l' d).covers q done in
-            (o.0, record { last = x; before = xs; legal = l'; landed = d; at = e; keeps = o.1 }, o.2)
+            (search)
 
     abbrev ChoiceIn : List Landing → ℕ → ℕ → Type 0
     ChoiceIn xs r t = Choice PatternNode (first_at p) (next_from (ranked p)) (cost_at p)
@@ -151,8 +147,7 @@ module _ (p : lists'.Problem) (sound : SoundProblem (ranked p)) (passed : (r : �
           last = (r, t);
           before = xs;
           legal = c.legal;
-          landed =
-              landed_more xs r t d c.lands;
+          landed = landed_more xs r t d c.lands;
           at = (net p sound).pushes r (ranks xs) l;
           keeps = c.kept;
         },
@@ -165,13 +160,11 @@ module _ (p : lists'.Problem) (sound : SoundProblem (ranked p)) (passed : (r : �
         → ChoiceIn xs r t → CanChoose p v Keeps xs r t
     choice_back xs r t l d c =
         let legal = (net p sound).grows r (ranks xs) l c.permitted in
-        let lands : landing_after p (latest_landing xs).0 (latest_landing xs).1 r ≡ Some t =
-        sym (ap (λ k. landing_after p k (latest_landing xs).1 r) (last_ranks xs)) ∙ c.found in
+        let lands = sym (ap (λ k. landing_after p k (latest_landing xs).1 r) (last_ranks xs)) ∙ c.found in
         let o = c.can_end.0 in
         let k = c.can_end.1 in
         let at = k.at ∙ sym ((net p sound).pushes r (ranks xs) l) in
-        let one = pattern_one p sound (ranks (k.last ∷ k.before)) (r ∷ ranks xs) k.legal legal at in
-        let done = completes_one p sound v (ranks (k.last ∷ k.before)) (r ∷ ranks xs) o k.legal legal one
+        let done = completes_one p sound v _ _ o k.legal legal (pattern_one p sound _ _ k.legal legal at)
         ((kept k.last k.before k.legal k.landed).completes o k.keeps) in
         let n = (kept (r, t) xs legal (landed_more xs r t d lands)).covers o done in
         record {
@@ -180,7 +173,7 @@ module _ (p : lists'.Problem) (sound : SoundProblem (ranked p)) (passed : (r : �
           pair = n.0;
           kept = n.1;
           in_time = le_trans c.can_end.2 n.2.0;
-          cheap = let a = n.2.1 in let b = c.can_end.3 in omega arith;
+          cheap = omega arith;
         }
 
     built_in : (xs : List Landing) → AreLeastChoices p v Keeps xs → Built xs × IsLegal p (ranks xs)
@@ -202,13 +195,11 @@ module _ (p : lists'.Problem) (sound : SoundProblem (ranked p)) (passed : (r : �
         → IsFirstBestList p (seconds_by_rank p xs)
     choices_first_best xs a whole =
         let b = built_in xs a in
-        let f = built_first (ranked p) sound (first_at p) (is_first_open p) (cost_at p) (costs_rise p) PatternNode
-        (pattern_node (ranked p).rules) (λ w. w.0) (λ rs. refl) (PatternPermits (ranked p).rules)
-        (pattern_push (ranked p).rules) pattern_newest (net p sound)
-        (λ t. is_low p v t ≡ true) (lower_by v p.objective) KeepsIn kept_in (budget_of p v) (value_at p) v
-        (within_by p.objective) (λ ys l d w low cheap. back_by p.objective at_value.0 at_value.1 ys low cheap)
+        let f = built_first _ sound _ (is_first_open p) _ (costs_rise p) _ _ _ (λ rs. refl) _ _ _ (net p sound)
+        _ (lower_by v _) _ kept_in _ (value_at p) v
+        (within_by _) (λ ys l d w low cheap. back_by _ _ at_value.1 ys low cheap)
         no_less xs b.1 (length_ranks xs ∙ whole) b.0 in
-        first_best_listed p sound passed (second_in xs) f.0
+        first_best_listed p sound passed _ f.0
 
     -- and while it is not whole some rank can be chosen
     pub choice_found : (xs : List Landing) → AreLeastChoices p v Keeps xs → length xs < length p.flights
@@ -217,19 +208,14 @@ module _ (p : lists'.Problem) (sound : SoundProblem (ranked p)) (passed : (r : �
     choice_found xs a short =
         let b = built_in xs a in
         let u = of_rank 0 value_is.attained.0 in
-        let fu = list_feasible p value_is.attained.0 value_is.attained.1 in
+        let fu = list_feasible p _ value_is.attained.1 in
         let rs = sorted u (length p.flights) in
         let us = at_seconds u rs in
-        let fl = feasible_lands (ranked p) u sound fu in
+        let fl = feasible_lands _ u sound fu in
         let same = ranks_at u rs in
-        let value_us : value_at p (pair_of (cost_at p) us) ≡ v =
-        ap (value_at p) (pair_all (ranked p) (cost_at p) sound u rs fl) ∙ at_value.1 in
-        let w = within_by p.objective us (subst (IsLegal p) (sym same) fl.legal) fl.landed
-        (ap length same ∙ fl.whole) (omega (arith, value_us)) in
+        let value_us = ap (value_at p) (pair_all _ (cost_at p) sound u rs fl) ∙ at_value.1 in
+        let w = within_by _ us (rw same fl.legal) fl.landed (cc) (omega (arith, value_us)) in
         let n = length_ranks xs in
-        let c = built_goes_on (ranked p) sound (first_at p) (is_first_open p) (cost_at p) (costs_rise p) PatternNode
-        (pattern_node (ranked p).rules) (λ w. w.0) (λ rs. refl) (PatternPermits (ranked p).rules)
-        (pattern_push (ranked p).rules) pattern_newest (net p sound)
-        (λ t. is_low p v t ≡ true) (lower_by v p.objective) KeepsIn kept_in (budget_of p v) u fu w.0 w.1 xs b.0 b.1
-        (λ e. omega arith) in
+        let c = built_goes_on _ sound _ (is_first_open p) _ (costs_rise p) _ _ _ (λ rs. refl) _ _ _ (net p sound)
+        _ (lower_by v _) _ kept_in _ u fu w.0 w.1 xs b.0 b.1 (λ e. omega arith) in
         (c.0, c.1, choice_back xs c.0 c.1 b.1 b.2 c.2)

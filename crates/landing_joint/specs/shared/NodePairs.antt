@@ -1,11 +1,11 @@
 -- The completing pairs of a prefix are those of its node, told by its pattern.
-use Rattle.std.proofs.Common.{◌≡◌, ℕ, suc, ◌-◌, ◌*◌, ◌≤◌, ◌↔◌, Bool, true, false, ◌||◌, leb, List, [], ◌∷◌, length}
+use Rattle.std.proofs.Common.{◌≡◌, ℕ, suc, ◌-◌, ◌*◌, ◌≤◌, ◌↔◌, Bool, true, false, ◌||◌, leb, List, [], ◌∷◌}
 use Rattle.std.proofs.Common.{refl, sym, ap, subst, ◌∙◌}
 use Rattle.std.proofs.lemmas.Bool.{false≢true}
 use Rattle.landing_rules.specs.Problem.{Problem}
 use Rattle.cps_theory.specs.RankLists.{In}
 use Rattle.cps_theory.specs.Separation.{Landing}
-use Rattle.cps_theory.specs.LandingTrail.{last_rank, ranks}
+use Rattle.cps_theory.specs.LandingTrail.{ranks}
 use Rattle.cps_theory.specs.Labels.{Pair}
 use Rattle.cps_theory.specs.LegalPrefix.{Legal}
 use Rattle.cps_theory.specs.Network.{Network}
@@ -22,7 +22,7 @@ use Rattle.landing_joint.specs.CompletingPairs.{AreOneNode, CanLandBy, EndsOrder
 -- ---- nodes
 
 same_member : (x : ℕ) (rs os : List ℕ) → In x rs ↔ In x os → is_member x rs ≡ is_member x os
-same_member x rs os h = go (is_member x rs) (is_member x os) refl refl
+same_member x rs os h = go _ _ refl refl
   where
     go : (b c : Bool) → is_member x rs ≡ b → is_member x os ≡ c → b ≡ c
     go true true e f = refl
@@ -32,7 +32,7 @@ same_member x rs os h = go (is_member x rs) (is_member x os) refl refl
 
 pub node_is : (m n : ℕ) (ds es : List Bool) (q r : ℕ) → m ≡ n → ds ≡ es → q ≡ r
     → ◌≡◌ {A = PatternNode} (m, ds, q) (n, es, r)
-node_is m n ds es q r a b c = ap (λ x. (x, ds, q)) a ∙ ap (λ x. (n, x, q)) b ∙ ap (λ x. (n, es, x)) c
+node_is m n ds es q r a b c = cc
 
 module _ (p : Problem) (sound : SoundProblem (ranked p)) where
   ones : (a r : ℕ) → (ranked p).rules.before a r ≡ true → 1 ≤ a
@@ -40,27 +40,22 @@ module _ (p : Problem) (sound : SoundProblem (ranked p)) where
 
   pub net : Network PatternNode (Legal (ranked p).rules) (pattern_node (ranked p).rules)
       (PatternPermits (ranked p).rules) (pattern_push (ranked p).rules) pattern_newest
-  net = pattern_network (ranked p).rules ones
+  net = pattern_network _ ones
 
   -- prefixes of one node have one pattern
   pub one_pattern : (rs os : List ℕ) → AreOneNode rs os
       → pattern_node (ranked p).rules rs ≡ pattern_node (ranked p).rules os
   one_pattern rs os n =
       let k = (ranked p).rules.most in
-      let d : tests_from (pattern_digit k rs) (suc (length rs)) (2 * k) ≡ tests_from (pattern_digit k os)
-      (suc (length os)) (2 * k) =
-      tests_agree (pattern_digit k rs) (pattern_digit k os) (suc (length rs)) (2 * k)
-      (λ x a b. ap (λ m. leb x k || m) (same_member (x - k) rs os (n.placed (x - k))))
+      let d = tests_agree _ _ _ _ (λ x a b. ap (λ m. leb x k || m) (same_member _ rs os (n.placed (x - k))))
       ∙ ap (λ m. tests_from (pattern_digit k os) (suc m) (2 * k)) n.stage in
-      node_is (length rs) (length os) (tests_from (pattern_digit k rs) (suc (length rs)) (2 * k))
-      (tests_from (pattern_digit k os) (suc (length os)) (2 * k)) (last_rank rs) (last_rank os) n.stage d n.latest
+      node_is _ _ _ _ _ _ n.stage d n.latest
 
   placed_one : (rs os : List ℕ) → IsLegal p rs → IsLegal p os
       → pattern_node (ranked p).rules rs ≡ pattern_node (ranked p).rules os → (x : ℕ) → In x rs → In x os
   placed_one rs os l m e x i =
-      let one = (in_from_one (ranked p).rules x rs (legal_each_fits (ranked p).rules rs l) i).0 in
-      (same (ranked p).rules ones os m x one).1 (subst (λ w. IsPlacedByPattern (ranked p).rules w x) e
-      ((same (ranked p).rules ones rs l x one).0 i))
+      let one = (in_from_one _ x rs (legal_each_fits _ rs l) i).0 in
+      (same _ ones os m x one).1 (subst (λ w. IsPlacedByPattern (ranked p).rules w x) e ((same _ ones rs l x one).0 i))
 
   -- and legal prefixes of one pattern are of one node
   pub pattern_one : (rs os : List ℕ) → IsLegal p rs → IsLegal p os
@@ -77,8 +72,7 @@ module _ (p : Problem) (sound : SoundProblem (ranked p)) where
     landings = c.landings;
     legal = c.legal;
     landed = c.landed;
-    at =
-        one_pattern (ranks c.landings) rs c.one_node;
+    at = one_pattern (ranks c.landings) rs c.one_node;
     by = c.by;
   }
 
@@ -88,8 +82,7 @@ module _ (p : Problem) (sound : SoundProblem (ranked p)) where
     landings = c.landings;
     legal = c.legal;
     landed = c.landed;
-    one_node =
-        pattern_one (ranks c.landings) rs c.legal l c.at;
+    one_node = pattern_one (ranks c.landings) rs c.legal l c.at;
     by = c.by;
   }
 
@@ -109,22 +102,14 @@ module _ (p : Problem) (sound : SoundProblem (ranked p)) where
       e.1,
       e.2,
       e.3,
-      subst (λ w. FollowsIn w y.1 ys) (net.pushes y.0 rs l)
-          (ends_follows (y.0 ∷ rs) y.1 ys e.0 e.4),
+      rw (net.pushes y.0 rs l) at (ends_follows _ y.1 ys e.0 e.4),
     )
 
     follows_ends : (rs : List ℕ) (b : ℕ) (ys : List Landing) → IsLegal p rs
         → FollowsIn (pattern_node (ranked p).rules rs) b ys → EndsOrder p v rs b ys
     follows_ends rs b [] l f = f
     follows_ends rs b (y ∷ ys) l f =
-        let m = net.grows y.0 rs l f.0 in (
-          m,
-          f.1,
-          f.2,
-          f.3,
-          follows_ends (y.0 ∷ rs) y.1 ys m
-              (subst (λ w. FollowsIn w y.1 ys) (sym (net.pushes y.0 rs l)) f.4),
-        )
+        let m = net.grows y.0 rs l f.0 in (m, f.1, f.2, f.3, follows_ends _ y.1 ys m (rw (net.pushes y.0 rs l) f.4))
 
     abbrev CompletesIn : PatternNode → Pair → Type 0
     CompletesIn w q = CompletesNode (ranked p) (cost_at p) (is_low p v) w q
@@ -137,8 +122,7 @@ module _ (p : Problem) (sound : SoundProblem (ranked p)) where
           opened = c.opened;
           reached = reached_by rs q.0 c.reached;
           low = c.low;
-          rest =
-              c.rest;
+          rest = c.rest;
           follows = ends_follows rs q.0 c.rest l c.ends;
           cost_is = c.cost_is;
         }
@@ -150,8 +134,7 @@ module _ (p : Problem) (sound : SoundProblem (ranked p)) where
           opened = c.opened;
           reached = by_reached rs q.0 l c.reached;
           low = c.low;
-          rest =
-              c.rest;
+          rest = c.rest;
           ends = follows_ends rs q.0 c.rest l c.follows;
           cost_is = c.cost_is;
         }
@@ -159,5 +142,4 @@ module _ (p : Problem) (sound : SoundProblem (ranked p)) where
     -- so they are those of each legal prefix of the node
     pub completes_one : (rs os : List ℕ) (q : Pair) → IsLegal p rs → IsLegal p os → AreOneNode rs os
         → IsCompletingPair p v rs q → IsCompletingPair p v os q
-    completes_one rs os q l m n c =
-        node_completes os q m (subst (λ w. CompletesIn w q) (one_pattern rs os n) (completes_node rs q l c))
+    completes_one rs os q l m n c = node_completes os q m (rw (one_pattern rs os n) at (completes_node rs q l c))

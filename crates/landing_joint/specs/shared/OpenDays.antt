@@ -9,18 +9,18 @@ use Rattle.landing_rules.specs.Rules.{last_second, is_open, is_within, is_shut}
 any_low : (ws : List Span) (u : ℕ) → All (λ w. (w.0 ≤ w.1) × (w.1 ≤ last_second)) ws → list_any (is_within u) ws ≡ true
     → u ≤ last_second
 any_low [] u a e = absurd (false≢true e)
-any_low (w ∷ ws) u a e = elim (or_cases (is_within u w) (list_any (is_within u) ws) e) [
-  | inl x ↦ (let b = and_parts (nat_le w.0 u) (nat_le u w.1) x in let c = leb-true u w.1 b.1 in let q =
-      a 0 w (omega arith) in omega (arith, q.1))
+any_low (w ∷ ws) u a e = elim (or_cases _ _ e) [
+  | inl x ↦ (let c = leb-true u w.1 (and_parts (nat_le w.0 u) (nat_le u w.1) x).1 in omega
+      (arith, (a 0 w (omega arith)).1))
   | inr x ↦ any_low ws u (λ k d lt. a (suc k) d (omega arith)) x
 ]
 
 pub open_in_days : (windows closures : List Span) (u : ℕ) → All (λ w. (w.0 ≤ w.1) × (w.1 ≤ last_second)) windows
     → is_open windows closures u ≡ true → u ≤ last_second
 open_in_days windows closures u a e =
-    any_low windows u a (and_parts (list_any (is_within u) windows) (not (list_any (is_shut u) closures)) e).0
+    any_low _ u a (and_parts (list_any (is_within u) windows) (not (list_any (is_shut u) closures)) e).0
 
 -- the same as a test
 pub open_low : (windows closures : List Span) (u : ℕ) → All (λ w. (w.0 ≤ w.1) × (w.1 ≤ last_second)) windows
     → is_open windows closures u ≡ true → nat_le u last_second ≡ true
-open_low windows closures u a e = le-leb u last_second (open_in_days windows closures u a e)
+open_low windows closures u a e = le-leb u _ (open_in_days _ _ u a e)

@@ -1,6 +1,6 @@
 -- Numbers sorted by their seconds: the same numbers, each landing before those behind it.
-use Rattle.std.proofs.Common.{◌≡◌, ◌≢◌, ℕ, ◌<◌, ◌⊎◌, inl, inr, List, [], ◌∷◌, map, filter, Bool, nat_lt, arith, refl}
-use Rattle.std.proofs.Common.{sym, ap, ap₂, subst}
+use Rattle.std.proofs.Common.{◌≡◌, ◌≢◌, ℕ, ◌<◌, ◌⊎◌, inl, inr, List, [], ◌∷◌, map, filter, Bool, arith, refl}
+use Rattle.std.proofs.Common.{ap, ap₂}
 use Rattle.std.proofs.lemmas.Bool.{cases_Bool, cases_lt, lt-ltb, le-ltb}
 use Rattle.landing_rules.specs.FirstBest.{insert_by, sorted_by}
 use Rattle.cps_theory.specs.RankLists.{In, Distinct}
@@ -12,33 +12,30 @@ use Rattle.std.proofs.lemmas.List.Sorted.{IsPermutation-sym}
 use Rattle.cps_theory.specs.laws.Members.{in_filter}
 
 in_inserted : (t : ℕ → ℕ) (r x : ℕ) (rs : List ℕ) → In x (insert_by t r rs) → (x ≡ r) ⊎ In x rs
-in_inserted t r x rs = member_permutation (insert_by t r rs) (r ∷ rs) x
-    (IsPermutation-sym (r ∷ rs) (insert_by t r rs) (insert_moves (λ y z. nat_lt (t y) (t z))
+in_inserted t r x rs = member_permutation _ _ x (IsPermutation-sym (r ∷ rs) (insert_by t r rs) (insert_moves _
     (insert_by t) (λ y. refl) (λ y z zs. refl) r rs))
 
 sorted_by_moves : (t : ℕ → ℕ) (rs : List ℕ) → IsPermutation rs (sorted_by t rs)
-sorted_by_moves t = sort_moves (λ y z. nat_lt (t y) (t z)) (insert_by t) (λ y. refl) (λ y z zs. refl)
-    (sorted_by t) refl (λ y ys. refl)
+sorted_by_moves t = sort_moves _ (insert_by t) (λ y. refl) (λ y z zs. refl) _ refl (λ y ys. refl)
 
 -- sorting keeps the members
 pub in_sorted_by : (t : ℕ → ℕ) (x : ℕ) (rs : List ℕ) → In x (sorted_by t rs) → In x rs
-in_sorted_by t x rs = member_permutation (sorted_by t rs) rs x
-    (IsPermutation-sym rs (sorted_by t rs) (sorted_by_moves t rs))
+in_sorted_by t x rs = member_permutation _ rs x (IsPermutation-sym rs (sorted_by t rs) (sorted_by_moves t rs))
 
 pub sorted_by_in : (t : ℕ → ℕ) (x : ℕ) (rs : List ℕ) → In x rs → In x (sorted_by t rs)
-sorted_by_in t x rs = member_permutation rs (sorted_by t rs) x (sorted_by_moves t rs)
+sorted_by_in t x rs = member_permutation rs _ x (sorted_by_moves t rs)
 
 ascends_inserted : (t : ℕ → ℕ) (r : ℕ) (rs : List ℕ) → Ascends t rs → ((q : ℕ) → In q rs → t q ≢ t r)
     → Ascends t (insert_by t r rs)
 ascends_inserted t r [] a ne = (λ y i. absurd i, tt)
 ascends_inserted t r (q ∷ rs) a ne = elim (cases_lt (t q) (t r)) [
-  | inl lt ↦ rw (lt-ltb (t q) (t r) lt) (
+  | inl lt ↦ rw (lt-ltb _ _ lt) (
     λ y i. elim (in_inserted t r y rs i) [ inl s ↦ rw s lt | inr k ↦ a.0 y k ],
     ascends_inserted t r rs a.1 (λ x i. ne x (inr i)),
   )
-  | inr le ↦ rw (le-ltb (t q) (t r) le) (
+  | inr le ↦ rw (le-ltb _ _ le) (
     let n =
-        ne q (inl refl) in λ y i. elim i [ inl s ↦ rw s (omega arith) | inr k ↦ (let x = a.0 y k in omega arith) ],
+        ne q (inl refl) in λ y i. elim i [ inl s ↦ rw s (omega arith) | inr k ↦ (omega (arith, a.0 y k)) ],
     a,
   )
 ]
@@ -48,8 +45,8 @@ pub sorted_by_ascends : (t : ℕ → ℕ) (rs : List ℕ) → Distinct rs → ((
     → Ascends t (sorted_by t rs)
 sorted_by_ascends t [] d ne = tt
 sorted_by_ascends t (r ∷ rs) d ne =
-    ascends_inserted t r (sorted_by t rs) (sorted_by_ascends t rs d.1 (λ q x i j. ne q x (inr i) (inr j)))
-    (λ q i. let k = in_sorted_by t q rs i in ne q r (inr k) (inl refl) (λ e. d.0 (subst (λ z. In z rs) e k)))
+    ascends_inserted t r _ (sorted_by_ascends t rs d.1 (λ q x i j. ne q x (inr i) (inr j)))
+    (λ q i. let k = in_sorted_by t q rs i in ne q r (inr k) (inl refl) (λ e. d.0 (rw e at k)))
 
 -- some of an ascending list ascend
 pub filter_ascends : (t : ℕ → ℕ) (p : ℕ → Bool) (rs : List ℕ) → Ascends t rs → Ascends t (filter p rs)
@@ -63,7 +60,7 @@ pub map_ascends : (t u : ℕ → ℕ) (f : ℕ → ℕ) (rs : List ℕ) → ((x 
 map_ascends t u f [] h a = tt
 map_ascends t u f (r ∷ rs) h a = (
   λ y i. let w = in_map f rs y i in let x = a.0 w.0 w.1 in let e = h r (inl refl) in let g =
-      h w.0 (inr w.1) in subst (λ z. u (f r) < u z) (sym w.2) (omega arith),
+      h w.0 (inr w.1) in rw w.2 (omega arith),
   map_ascends t u f rs (λ x i. h x (inr i)) a.1,
 )
 
@@ -72,8 +69,8 @@ pub ascends_same : (t u : ℕ → ℕ) (rs : List ℕ) → Ascends t rs → Asce
     → In g rs → t f < t g → u f < u g
 ascends_same t u [] d e f g i j lt = absurd i
 ascends_same t u (x ∷ rs) d e f g (inl s) (inl s') lt = absurd (let a = ap t s in let b = ap t s' in omega arith)
-ascends_same t u (x ∷ rs) d e f g (inl s) (inr j) lt = let a = ap u s in let b = e.0 g j in omega arith
-ascends_same t u (x ∷ rs) d e f g (inr i) (inl s) lt = absurd (let a = ap t s in let b = d.0 f i in omega arith)
+ascends_same t u (x ∷ rs) d e f g (inl s) (inr j) lt = omega (arith, ap u s)
+ascends_same t u (x ∷ rs) d e f g (inr i) (inl s) lt = absurd (omega (arith, ap t s))
 ascends_same t u (x ∷ rs) d e f g (inr i) (inr j) lt = ascends_same t u rs d.1 e.1 f g i j lt
 
 -- a list is told by its image where no two of it have one image

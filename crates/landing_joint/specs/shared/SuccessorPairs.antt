@@ -3,15 +3,14 @@ use Rattle.std.proofs.Common.{◌≡◌, ℕ, ◌+◌, ◌<◌, ◌≤◌, true,
 use Rattle.landing_rules.specs.Problem.{Problem}
 use Rattle.cps_theory.specs.LandingTrail.{last_rank}
 use Rattle.cps_theory.specs.Labels.{Pair}
-use Rattle.cps_theory.specs.LegalPrefix.{Legal}
-use Rattle.cps_theory.specs.Patterns.{PatternNode, PatternPermits, pattern_newest, pattern_node, pattern_push}
+use Rattle.cps_theory.specs.Patterns.{PatternNode, PatternPermits, pattern_node, pattern_push}
 use Rattle.cps_theory.specs.Feasible.{SoundProblem, next_from}
 use Rattle.cps_theory.specs.CompletingPairs.{KeptCompleting, NoEarlierNoDearer}
 use Rattle.cps_theory.specs.FirstBest.{CompletesNode, ReachedIn}
 use Rattle.cps_theory.specs.laws.CompletingPairs.{completing_final, completing_next, reached_push}
 use Rattle.cps_theory.specs.laws.FirstBest.{nodes_closed}
 use Rattle.cps_theory.specs.laws.LeastObjective.{next_later}
-use Rattle.landing_joint.specs.RankedProblem.{ranked, cost_at, first_at, landing_after}
+use Rattle.landing_joint.specs.RankedProblem.{ranked, cost_at, landing_after}
 use Rattle.landing_joint.specs.CompletingPairs.{CanLandBy, Cover, IsCompletingPair, IsLastPair, IsLegal}
 use Rattle.landing_joint.specs.CompletingPairs.{IsSuccessorPair, is_low}
 use Rattle.landing_joint.specs.shared.FirstOpen.{is_first_open}
@@ -34,13 +33,9 @@ module _ (p : Problem) (sound : SoundProblem (ranked p)) (v : ℕ) (rs : List �
   pub last_pairs : length rs ≡ length p.flights → Cover (IsLastPair p v rs) New
       → KeptCompleting (IsCompletingPair p v rs) New
   last_pairs whole c =
-      kept_by_prefix p sound v rs legal New
-      (completing_final PatternNode (λ r u. (ranked p).is_open r u ≡ true) (first_at p) (next_from (ranked p))
-      (cost_at p) (Legal (ranked p).rules) (pattern_node (ranked p).rules) (PatternPermits (ranked p).rules)
-      (pattern_push (ranked p).rules) pattern_newest (is_first_open p) (next_later (ranked p))
-      (costs_rise p) (net p sound) (λ z. z.0 ≡ (ranked p).rules.count) (nodes_closed (ranked p) sound)
-      (λ t. is_low p v t ≡ true) (lower_by v p.objective)
-      (pattern_node (ranked p).rules rs) whole New
+      kept_by_prefix p sound v rs legal New (completing_final _ _ _ _ _ _ _ _
+      _ _ (is_first_open p) (next_later (ranked p)) (costs_rise p) (net p sound) _ (nodes_closed _ sound)
+      _ (lower_by v _) _ whole New
       (λ q n. let a = c.are q n in (a.opened, reached_by p sound rs q.0 a.reached, a.low, a.cost_is))
       (λ b o r l. let a = c.cover (b, 0)
       (record { opened = o; reached = by_reached p sound rs b legal r; low = l; cost_is = refl }) in
@@ -62,13 +57,9 @@ module _ (p : Problem) (sound : SoundProblem (ranked p)) (v : ℕ) (rs : List �
         → KeptCompleting (IsCompletingPair p v (r ∷ rs)) (Keeps (r ∷ rs))) → Cover (IsSuccessorPair p v Keeps rs) New
         → KeptCompleting (IsCompletingPair p v rs) New
     successor_pairs short nexts c =
-        kept_by_prefix p sound v rs legal New
-        (completing_next PatternNode (λ r u. (ranked p).is_open r u ≡ true) (first_at p) (next_from (ranked p))
-        (cost_at p) (Legal (ranked p).rules) (pattern_node (ranked p).rules) (PatternPermits (ranked p).rules)
-        (pattern_push (ranked p).rules) pattern_newest (is_first_open p) (next_later (ranked p))
-        (costs_rise p) (net p sound) (λ z. z.0 ≡ (ranked p).rules.count) (nodes_closed (ranked p) sound)
-        (λ t. is_low p v t ≡ true) (lower_by v p.objective)
-        KeepsBehind (pattern_node (ranked p).rules rs) New (λ e. omega arith) behind made enough)
+        kept_by_prefix p sound v rs legal New (completing_next _ _ _ _ _ _ _ _
+        _ _ (is_first_open p) (next_later (ranked p)) (costs_rise p) (net p sound) _ (nodes_closed _ sound)
+        _ (lower_by v _) KeepsBehind _ New (λ e. omega arith) behind made enough)
       where
         behind : (r : ℕ) → PatternPermits (ranked p).rules (pattern_node (ranked p).rules rs) r
             → KeptCompleting (CompletesNode (ranked p) (cost_at p) (is_low p v)
@@ -85,7 +76,7 @@ module _ (p : Problem) (sound : SoundProblem (ranked p)) (v : ℕ) (rs : List �
                   let done = node_completes p sound v (r ∷ rs) o more
                   (subst (λ w. CompletesNode (ranked p) (cost_at p) (is_low p v) w o) (sym at) d) in
                   let a = (nexts r o.0 more done.reached).covers o done in
-                  (a.0, record { rank = r; more = more; at = at; by = o.0; reached = done.reached; keeps = a.1 }, a.2);
+                  (search);
             }
 
         made : (q : Pair) → New q → ((ranked p).is_open (last_rank rs) q.0 ≡ true)
@@ -100,15 +91,12 @@ module _ (p : Problem) (sound : SoundProblem (ranked p)) (v : ℕ) (rs : List �
             let permitted = ((net p sound).shrinks a.rank rs a.legal).1 in
             let reached = reached_by p sound rs q.0 a.reached in
             let f = (is_first_open p).found a.rank (next_from (ranked p) (last_rank rs) q.0 a.rank) a.second a.lands in
-            let on = reached_push PatternNode (λ r u. (ranked p).is_open r u ≡ true) (first_at p)
-            (next_from (ranked p)) (cost_at p) (Legal (ranked p).rules) (pattern_node (ranked p).rules)
-            (PatternPermits (ranked p).rules) (pattern_push (ranked p).rules) pattern_newest
+            let on = reached_push _ _ _ _ _ _ _ _ _ _
             (is_first_open p) (next_later (ranked p)) (costs_rise p) (net p sound)
-            (λ z. z.0 ≡ (ranked p).rules.count) (nodes_closed (ranked p) sound) (λ t. is_low p v t ≡ true)
-            (lower_by v p.objective)
-            (pattern_node (ranked p).rules rs) q.0 a.rank a.second reached permitted f.0 f.1 in
-            let by = by_reached p sound (a.rank ∷ rs) a.second a.legal
-            (subst (λ w. ReachedIn (ranked p) w a.second) (sym at) on) in (
+            (λ z. z.0 ≡ (ranked p).rules.count) (nodes_closed _ sound) _ (lower_by v p.objective)
+            _ q.0 _ _ reached permitted f.0 f.1 in
+            let by = by_reached p sound _ _ a.legal
+            (rw at on) in (
               a.opened,
               reached,
               a.low,
@@ -131,7 +119,7 @@ module _ (p : Problem) (sound : SoundProblem (ranked p)) (v : ℕ) (rs : List �
             → KeepsBehind (pattern_push (ranked p).rules (pattern_node (ranked p).rules rs) r) o
             → x ≤ o.0 → (q : Pair) × New q × NoEarlierNoDearer q (b, cost_at p r x + o.1)
         enough b r x o opened reached low permitted lands k le =
-            let same : k.rank ≡ r = ap (λ (w : PatternNode). w.2) k.at in
+            let same = ap (λ (w : PatternNode). w.2) k.at in
             c.cover (b, cost_at p r x + o.1) (record {
               opened = opened;
               reached = by_reached p sound rs b legal reached;

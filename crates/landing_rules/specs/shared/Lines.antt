@@ -22,7 +22,7 @@ IsWithout mark (b ∷ rest) = (b ≡ mark → ⊥) × IsWithout mark rest
 
 pub IsWithout-append : (mark : ℕ) (a b : Bytes) → IsWithout mark a → IsWithout mark b → IsWithout mark (a ++ b)
 IsWithout-append mark [] b p q = q
-IsWithout-append mark (x ∷ a) b p q = (p.0, IsWithout-append mark a b p.1 q)
+IsWithout-append mark (x ∷ a) b p q = (p.0, IsWithout-append _ a b p.1 q)
 
 abbrev pub first_or : ℕ → List ℕ → ℕ
 first_or d [] = d
@@ -35,11 +35,11 @@ rest_of (x ∷ xs) = xs
 pub cut_same : (mark : ℕ) (a b x y : Bytes) → IsWithout mark a → IsWithout mark b → a ++ mark ∷ x ≡ b ++ mark ∷ y
     → (a ≡ b) × (x ≡ y)
 cut_same mark [] [] x y p q e = (refl, ap rest_of e)
-cut_same mark [] (c ∷ b) x y p q e = absurd (q.0 (sym (ap (first_or mark) e)))
-cut_same mark (c ∷ a) [] x y p q e = absurd (p.0 (ap (first_or mark) e))
+cut_same mark [] (c ∷ b) x y p q e = absurd (q.0 (cc))
+cut_same mark (c ∷ a) [] x y p q e = absurd (p.0 (cc))
 cut_same mark (c ∷ a) (d ∷ b) x y p q e =
-    let head : c ≡ d = ap (first_or mark) e in
-    let more = cut_same mark a b x y p.1 q.1 (ap rest_of e) in
+    let head : c ≡ d = cc in
+    let more = cut_same _ a b x y p.1 q.1 (ap rest_of e) in
     (rw (head, more.0) refl, more.1)
 
 -- lines without line feeds
@@ -53,12 +53,10 @@ line_some (b ∷ l) x e = cc e
 
 pub lines_same : (ls ms : List Bytes) → AreLines ls → AreLines ms → lines_text ls ≡ lines_text ms → ls ≡ ms
 lines_same [] [] p q e = refl
-lines_same [] (m ∷ ms) p q e =
-    absurd (line_some m (lines_text ms) (sym (append_assoc m (10 ∷ []) (lines_text ms)) ∙ sym e))
-lines_same (l ∷ ls) [] p q e = absurd (line_some l (lines_text ls) (sym (append_assoc l (10 ∷ []) (lines_text ls)) ∙ e))
+lines_same [] (m ∷ ms) p q e = absurd (line_some m _ (sym (append_assoc m _ _) ∙ sym e))
+lines_same (l ∷ ls) [] p q e = absurd (line_some l _ (sym (append_assoc l _ _) ∙ e))
 lines_same (l ∷ ls) (m ∷ ms) p q e =
-    let both = cut_same 10 l m (lines_text ls) (lines_text ms) p.0 q.0 (sym (append_assoc l (10 ∷ []) (lines_text ls))
-    ∙ e ∙ append_assoc m (10 ∷ []) (lines_text ms)) in
+    let both = cut_same 10 l m _ _ p.0 q.0 (sym (append_assoc l _ _) ∙ e ∙ append_assoc m _ _) in
     rw (both.0, lines_same ls ms p.1 q.1 both.1) refl
 
 -- ---- numbers, names and words without a mark
@@ -67,7 +65,7 @@ abbrev AreDigits : List ℕ → Type 0
 AreDigits ds = list_all is_ascii_digit ds ≡ true
 
 own : IsNumeralModel AreDigits (digits_value 10)
-own = numerals_by_value AreDigits (search rules)
+own = numerals_by_value _ (search rules)
 
 digit_low : (b : ℕ) → is_ascii_digit b ≡ true → 48 ≤ b
 digit_low b e = grind (arith, nat_tests, common_steps)
@@ -75,15 +73,14 @@ digit_low b e = grind (arith, nat_tests, common_steps)
 digits_without : (mark : ℕ) (ds : List ℕ) → mark < 48 → AreDigits ds → IsWithout mark ds
 digits_without mark [] m h = tt
 digits_without mark (d ∷ ds) m h =
-    let low = digit_low d (and_parts _ _ h).0 in
-    ((λ e. omega (arith, low, e, m)), digits_without mark ds m (and_parts _ _ h).1)
+    ((λ e. omega (arith, digit_low d (and_parts _ _ h).0, e, m)), digits_without _ ds m (and_parts _ _ h).1)
 
 pub decimal_without : (mark n : ℕ) → mark < 48 → n < 2 ^ 64 → IsWithout mark (decimal n)
-decimal_without mark n m h = digits_without mark (decimal n) m (digits_decimal own n h)
+decimal_without mark n m h = digits_without _ _ m (digits_decimal own n h)
 
 pub name_without : (mark : ℕ) (c : Bytes) → mark ≤ 32 → IsName c → IsWithout mark c
 name_without mark [] m h = tt
-name_without mark (b ∷ c) m h = ((λ e. omega (arith, h.0, e, m)), name_without mark c m h.1)
+name_without mark (b ∷ c) m h = ((λ e. omega (arith, h.0, e, m)), name_without _ c m h.1)
 
 differs : (b mark : ℕ) → not (nat_eq b mark) ≡ true → b ≡ mark → ⊥
 differs b mark h e = grind (arith, nat_tests, common_steps)
@@ -91,7 +88,7 @@ differs b mark h e = grind (arith, nat_tests, common_steps)
 -- a text in which each byte is tested
 pub all_without : (mark : ℕ) (bs : Bytes) → list_all (λ b. not (nat_eq b mark)) bs ≡ true → IsWithout mark bs
 all_without mark [] h = tt
-all_without mark (b ∷ bs) h = (differs b mark ((and_parts _ _ h).0), all_without mark bs ((and_parts _ _ h).1))
+all_without mark (b ∷ bs) h = (differs b _ ((and_parts _ _ h).0), all_without _ bs ((and_parts _ _ h).1))
 
 pub frozen_without : (b : Bool) → IsWithout 10 (frozen_word b)
 frozen_without true = all_without 10 (frozen_word true) refl
@@ -103,8 +100,6 @@ objective_without Delay = all_without 10 (objective_word Delay) refl
 
 pub landing_line : (f : ShownLanding) → IsName f.callsign → f.second < 2 ^ 64 → IsWithout 10 (landing_words f)
 landing_line f p m =
-    IsWithout-append 10 (codes "land ") _ (all_without 10 (codes "land ") refl)
-    (IsWithout-append 10 (f.callsign ++ codes " ") _
-    (IsWithout-append 10 f.callsign _ (name_without 10 f.callsign (omega arith) p)
-    (all_without 10 (codes " ") refl))
-    (IsWithout-append 10 (decimal f.second) _ (decimal_without 10 f.second (omega arith) m) (frozen_without f.frozen)))
+    IsWithout-append 10 (codes "land ") _ (all_without 10 (codes "land ") refl) (IsWithout-append 10 _ _
+    (IsWithout-append 10 _ _ (name_without 10 _ (omega arith) p) (all_without 10 (codes " ") refl))
+    (IsWithout-append 10 _ _ (decimal_without 10 _ (omega arith) m) (frozen_without _)))

@@ -1,6 +1,6 @@
 -- What is in a list: in one that is filtered, mapped or grown, and what a search in it finds.
 use Rattle.std.proofs.Common.{◌≡◌, ℕ, zero, suc, ◌<◌, ◌≤◌, ◌⊎◌, inl, inr, Bool, true, false, List, [], ◌∷◌, ◌++◌}
-use Rattle.std.proofs.Common.{length, get_or, map, filter, Option, Some, None, refl, sym, ap, subst, ◌∙◌, arith}
+use Rattle.std.proofs.Common.{length, get_or, map, filter, Option, Some, None, refl, sym, ap, ◌∙◌, arith}
 use Rattle.std.specs.Prelude.{All, Contains, option_map, filter_map, find}
 use Rattle.std.specs.List.{cons_option, list_any}
 use Rattle.std.specs.List.Sorted.{IsPermutation}
@@ -22,19 +22,19 @@ member_at (x ∷ xs) zero d l = inl refl
 member_at (x ∷ xs) (suc i) d l = inr (member_at xs i d (omega arith))
 
 pub contains_member : {X : Type 0} (xs : List X) (x : X) → Contains xs x → Member x xs
-contains_member xs x c = subst (λ y. Member y xs) c.2 (member_at xs c.0 x c.1)
+contains_member xs x c = rw c.2 at (member_at xs c.0 x c.1)
 
 pub member_contains : {X : Type 0} (xs : List X) (x : X) → Member x xs → Contains xs x
 member_contains [] x m = absurd m
 member_contains (y ∷ ys) x (inl e) = (0, omega arith, sym e)
-member_contains (y ∷ ys) x (inr m) = let c = member_contains ys x m in (suc c.0, (let l = c.1 in omega arith), c.2)
+member_contains (y ∷ ys) x (inr m) = let c = member_contains ys x m in (suc c.0, (omega arith), c.2)
 
 pub member_permutation : {X : Type 0} (xs ys : List X) (x : X) → IsPermutation xs ys → Member x xs → Member x ys
 member_permutation xs ys x p m = contains_member ys x (Contains-permutation xs ys x p (member_contains xs x m))
 
 pub all_at : {X : Type 0} (P : X → Type 0) (xs : List X) → All P xs → (x : X) → Member x xs → P x
 all_at P [] all x m = absurd m
-all_at P (y ∷ ys) all x (inl e) = subst P (sym e) (All-head P y ys all)
+all_at P (y ∷ ys) all x (inl e) = rw e (All-head P y ys all)
 all_at P (y ∷ ys) all x (inr m) = all_at P ys (All-tail P y ys all) x m
 
 pub all_from : {X : Type 0} (P : X → Type 0) (xs : List X) → ((x : X) → Member x xs → P x) → All P xs
@@ -73,7 +73,7 @@ map_in f (y ∷ ys) x (inr m) = inr (map_in f ys x m)
 pub in_filter_map : {X Y : Type 0} (h : X → Option Y) (xs : List X) (y : Y) → Member y (filter_map h xs)
     → (x : X) × Member x xs × (h x ≡ Some y)
 in_filter_map h [] y m = absurd m
-in_filter_map {X = X} {Y = Y} h (x ∷ xs) y m = go (h x) refl m (in_filter_map h xs y)
+in_filter_map {X = X} {Y = Y} h (x ∷ xs) y m = go _ refl m (in_filter_map h xs y)
   where
     go : (o : Option Y) → h x ≡ o → Member y (cons_option o (filter_map h xs))
         → (Member y (filter_map h xs) → (z : X) × Member z xs × (h z ≡ Some y)) → (z : X) × Member z (x ∷ xs)
@@ -85,20 +85,18 @@ in_filter_map {X = X} {Y = Y} h (x ∷ xs) y m = go (h x) refl m (in_filter_map 
 pub filter_map_in : {X Y : Type 0} (h : X → Option Y) (xs : List X) (x : X) (y : Y) → Member x xs
     → h x ≡ Some y → Member y (filter_map h xs)
 filter_map_in h [] x y m e = absurd m
-filter_map_in h (z ∷ zs) x y (inl s) e =
-    subst (λ o. Member y (cons_option o (filter_map h zs))) (sym (ap h (sym s) ∙ e)) (inl refl)
+filter_map_in h (z ∷ zs) x y (inl s) e = rw (ap h (sym s) ∙ e) (inl refl)
 filter_map_in h (z ∷ zs) x y (inr m) e = elim (cases_option (h z)) [
   | inl q ↦ rw q (filter_map_in h zs x y m e)
-  | inr w ↦
-      rw w.1 (inr (filter_map_in h zs x y m e))
+  | inr w ↦ rw w.1 (inr (filter_map_in h zs x y m e))
 ]
 
 -- the frozen landings of a list of flights
 pub in_frozen : (xs : List Active) (f : Landing) → Member f (filter_map (λ a. option_map (landing a) a.frozen) xs)
     → (a : Active) × (t : ℕ) × Member a xs × (a.frozen ≡ Some t) × (f ≡ landing a t)
 in_frozen xs f m =
-    let r = in_filter_map (λ a. option_map (landing a) a.frozen) xs f m in
-    let w = go r.0 r.0.frozen r.2 in
+    let r = in_filter_map _ xs f m in
+    let w = go r.0 _ r.2 in
     (r.0, w.0, r.1, w.1, w.2)
   where
     go : (a : Active) (o : Option ℕ) → option_map (landing a) o ≡ Some f → (t : ℕ) × (o ≡ Some t) × (f ≡ landing a t)
@@ -107,8 +105,7 @@ in_frozen xs f m =
 
 pub frozen_in : (xs : List Active) (a : Active) (t : ℕ) → Member a xs → a.frozen ≡ Some t
     → Member (landing a t) (filter_map (λ a. option_map (landing a) a.frozen) xs)
-frozen_in xs a t m e = filter_map_in (λ a. option_map (landing a) a.frozen) xs a (landing a t) m
-    (ap (option_map (landing a)) e)
+frozen_in xs a t m e = filter_map_in _ xs a _ m (cc)
 
 -- ---- a grown list
 
@@ -130,30 +127,30 @@ in_push (z ∷ xs) y x (inr m) = elim (in_push xs y x m) [ inl k ↦ inl (inr k)
 -- ---- what a search finds
 
 pub found_in : {X : Type 0} (p : X → Bool) (xs : List X) (x : X) → find p xs ≡ Some x → Member x xs × (p x ≡ true)
-found_in p [] x e = let w : None ≡ Some x = e in absurd (cc)
+found_in p [] x e = absurd (cc)
 found_in p (y ∷ ys) x e = elim (cases_Bool (p y)) [
-  | inl q ↦ (let w : Some y ≡ Some x = rw q at e in let v : y ≡ x = cc in (inl (sym v), ap p (sym v) ∙ q))
+  | inl q ↦ (let v : y ≡ x = cc in (inl (sym v), ap p (sym v) ∙ q))
   | inr q ↦ (let r = found_in p ys x (rw q at e) in (inr r.0, r.1))
 ]
 
 pub none_found : {X : Type 0} (p : X → Bool) (xs : List X) (x : X) → find p xs ≡ None → Member x xs → p x ≡ false
 none_found p [] x e m = absurd m
 none_found p (y ∷ ys) x e m = elim (cases_Bool (p y)) [
-  | inl q ↦ (let w : Some y ≡ None = rw q at e in absurd (cc))
+  | inl q ↦ (absurd (cc))
   | inr q ↦ elim m [ inl s ↦ ap p s ∙ q | inr k ↦ none_found p ys x (rw q at e) k ]
 ]
 
 pub none_any : {X : Type 0} (p : X → Bool) (xs : List X) (x : X) → list_any p xs ≡ false → Member x xs → p x ≡ false
 none_any p [] x e m = absurd m
-none_any p (y ∷ ys) x e (inl m) = ap p m ∙ (or_parts (p y) (list_any p ys) e).0
-none_any p (y ∷ ys) x e (inr m) = none_any p ys x (or_parts (p y) (list_any p ys) e).1 m
+none_any p (y ∷ ys) x e (inl m) = ap p m ∙ (or_parts _ _ e).0
+none_any p (y ∷ ys) x e (inr m) = none_any p ys x (or_parts _ _ e).1 m
 
 -- ---- how many pass
 
 pub fewer_filtered : {X Y : Type 0} (p : Y → Bool) (q : X → Bool) (f : X → Y) (xs : List X)
     → ((x : X) → p (f x) ≡ true → q x ≡ true) → length (filter p (map f xs)) ≤ length (filter q xs)
 fewer_filtered p q f [] h = omega arith
-fewer_filtered p q f (x ∷ xs) h = let k = fewer_filtered p q f xs h in elim (cases_Bool (p (f x))) [
+fewer_filtered p q f (x ∷ xs) h = let k = fewer_filtered p q f xs h in elim (cases_Bool _) [
   | inl e ↦ rw (e, h x e) (omega arith)
   | inr e ↦ elim (cases_Bool (q x)) [ inl d ↦ rw (e, d) (omega arith) | inr d ↦ rw (e, d) k ]
 ]

@@ -1,5 +1,5 @@
 -- Two lists in one strict order that have the same members are equal.
-use Rattle.std.proofs.Common.{◌≡◌, inl, inr, List, [], ◌∷◌, refl, sym, ap₂, subst, ◌∙◌}
+use Rattle.std.proofs.Common.{◌≡◌, inl, inr, List, [], ◌∷◌, refl, sym, ap₂, ◌∙◌}
 use Rattle.landing_rules.specs.shared.Counting.{Member}
 
 -- each comes before all that stand behind it
@@ -17,7 +17,7 @@ module _ {X : Type 0} (Lt : X → X → Type 0) (one_way : (x y : X) → Lt x y 
   -- an element of the one tail is one of the other
   in_tail : (x y : X) (xs ys : List X) → x ≡ y → AscendBy Lt (x ∷ xs) → (z : X) → Member z xs
       → Member z (y ∷ ys) → Member z ys
-  in_tail x y xs ys e a z i (inl s) = let l = subst (Lt x) (s ∙ sym e) (a.0 z i) in absurd (one_way x x l l)
+  in_tail x y xs ys e a z i (inl s) = let l = rw (s ∙ sym e) at (a.0 z i) in absurd (one_way x x l l)
   in_tail x y xs ys e a z i (inr j) = j
 
   pub one_list : (xs ys : List X) → AscendBy Lt xs → AscendBy Lt ys → ((z : X) → Member z xs → Member z ys)

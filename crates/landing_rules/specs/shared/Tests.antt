@@ -1,16 +1,14 @@
 -- Each test answers whether its fact holds.
-use Rattle.std.proofs.Common.{◌≡◌, ℕ, ◌+◌, ◌<◌, ◌≤◌, Bool, true, false, ◌||◌, not, List, length, refl, sym, arith, ltb}
+use Rattle.std.proofs.Common.{◌≡◌, ℕ, ◌+◌, ◌<◌, ◌≤◌, Bool, true, false, ◌||◌, not, List, length, refl, sym, arith}
 use Rattle.std.proofs.Common.{leb, Some, None, Option}
 use Rattle.std.specs.Prelude.{All, MatchOption, ◌≢◌, filter, IsTrue}
 use Rattle.std.specs.Bool.{Decides}
 use Rattle.std.specs.List.{list_all}
-use Rattle.std.specs.Str.{bytes_eq}
 use Rattle.std.proofs.lemmas.Bool.{leb-true, le-leb, true≢false}
 use Rattle.std.proofs.lemmas.Bool.Decides.{Decides-eqb, Decides-and, Decides-like, Decides-by_and, Decides-ltb}
 use Rattle.std.proofs.lemmas.Slice.Eq.{bytes_eq-Decides}
-use Rattle.wake_table.specs.Table.{separation}
-use Rattle.landing_rules.specs.Flights.{Situation, Schedule, Landing, landings, horizon}
-use Rattle.landing_rules.specs.Rules.{last_second, is_open, lists, rank_among, place, waits, ArePairSeparated}
+use Rattle.landing_rules.specs.Flights.{Situation, Schedule, Landing, horizon}
+use Rattle.landing_rules.specs.Rules.{rank_among, place, ArePairSeparated}
 use Rattle.landing_rules.specs.Rules.{IsPairInPrecedence, IsShiftKept, IsFrozenKept, KeepsRules, IsFeasible}
 use Rattle.landing_rules.specs.Testing.{is_pair_separated, is_pair_in_precedence, is_shift_kept, keeps_frozen}
 use Rattle.landing_rules.specs.Testing.{for_each_pair, keeps_rules, is_feasible}
@@ -25,8 +23,7 @@ list_all-Decides p P each all = Decides-by_and p P (list_all p) each refl (λ _ 
 for_each_pair-Decides : (p : Landing → Landing → Bool) (P : Landing → Landing → Type 0)
     → ((f g : Landing) → Decides (p f g) (P f g)) → (all : List Landing)
     → Decides (for_each_pair p all) (All (λ f. All (P f) all) all)
-for_each_pair-Decides p P each all =
-    list_all-Decides (λ f. list_all (p f) all) (λ f. All (P f) all) (λ f. list_all-Decides (p f) (P f) (each f) all) all
+for_each_pair-Decides p P each all = list_all-Decides _ _ (λ f. list_all-Decides _ _ (each f) all) all
 
 itself : (b : Bool) → Decides b (IsTrue b)
 itself b = (λ e. e, λ e. e)
@@ -38,27 +35,23 @@ Decides-implies false y P Q d e = (λ h p. absurd (true≢false (sym (d.1 p))), 
 
 pub is_pair_separated-Decides : (table : List (List ℕ)) (f g : Landing)
     → Decides (is_pair_separated table f g) (ArePairSeparated table f g)
-is_pair_separated-Decides table f g =
-    by (bytes_eq f.flight.callsign g.flight.callsign) (ltb g.second f.second)
-    (bytes_eq-Decides f.flight.callsign g.flight.callsign) (Decides-ltb g.second f.second)
-    (leb-Decides (f.second + separation table f.flight.category g.flight.category) g.second)
+is_pair_separated-Decides table f g = by _ _ (bytes_eq-Decides _ _) (Decides-ltb _ _) (leb-Decides _ _)
   where
     by : (x y : Bool) {z : Bool} {Q : Type 0} → Decides x (f.flight.callsign ≡ g.flight.callsign)
         → Decides y (g.second < f.second) → Decides z Q →
         Decides (x || (y || z)) (f.flight.callsign ≢ g.flight.callsign → f.second ≤ g.second → Q)
     by true y d e q = (λ h n l. absurd (n (d.0 refl)), λ h. refl)
-    by false true d e q = (λ h n l. absurd (let k : g.second < f.second = e.0 refl in omega arith), λ h. refl)
+    by false true d e q = (λ h n l. absurd (omega arith), λ h. refl)
     by false false d e q = (
       λ h n l. q.0 h,
-      λ h. q.1 (h (λ s. true≢false (sym (d.1 s))) (le f.second g.second (λ l. true≢false (sym (e.1 l))))),
+      λ h. q.1 (h (λ s. true≢false (sym (d.1 s))) (le _ _ (λ l. true≢false (sym (e.1 l))))),
     )
       where
         le : (a b : ℕ) → ¬ (b < a) → a ≤ b
         le a b n = omega arith
 
 is_pair_in_precedence-Decides : (f g : Landing) → Decides (is_pair_in_precedence f g) (IsPairInPrecedence f g)
-is_pair_in_precedence-Decides f g =
-    Decides-implies _ _ _ _ (itself (lists g.flight f.flight.callsign)) (Decides-ltb f.second g.second)
+is_pair_in_precedence-Decides f g = Decides-implies _ _ _ _ (itself _) (Decides-ltb _ _)
 
 pub is_shift_kept-Decides : (k : ℕ) (all : List Landing) (f : Landing)
     → Decides (is_shift_kept k all f) (IsShiftKept k all f)
@@ -67,32 +60,25 @@ is_shift_kept-Decides k all f = Decides-and _ _ (leb-Decides (rank_among all f) 
 
 keeps_frozen-Decides : (h second : ℕ) (frozen : Option ℕ)
     → Decides (keeps_frozen h second frozen) (MatchOption frozen (h ≤ second) (λ t. second ≡ t))
-keeps_frozen-Decides h second None = leb-Decides h second
+keeps_frozen-Decides h second None = leb-Decides h _
 keeps_frozen-Decides h second (Some t) = Decides-eqb second t
 
 pub keeps_rules-Decides : (s : Situation) (all : List Landing) → Decides (keeps_rules s all) (KeepsRules s all)
 keeps_rules-Decides s all =
-    Decides-like (keeps_rules s all)
+    Decides-like _
     (λ h. record {
       in_days = h.0;
       open_seconds = h.1.0;
       separated = h.1.1.0;
-      in_precedence =
-          h.1.1.1.0;
+      in_precedence = h.1.1.1.0;
       shift = h.1.1.1.1.0;
       frozen_kept = h.1.1.1.1.1;
-    })
-    (λ h. (h.in_days, (h.open_seconds, (h.separated, (h.in_precedence, (h.shift, h.frozen_kept))))))
-    (Decides-and _ _ (list_all-Decides _ (λ f. f.second ≤ last_second) (λ f. leb-Decides f.second last_second) all)
-    (Decides-and _ _ (list_all-Decides _ (λ f. IsTrue (is_open f.flight.windows s.closures f.second))
-    (λ f. itself (is_open f.flight.windows s.closures f.second)) all)
-    (Decides-and _ _ (for_each_pair-Decides _ (ArePairSeparated s.aerodrome.table)
-    (is_pair_separated-Decides s.aerodrome.table) all)
-    (Decides-and _ _ (for_each_pair-Decides _ IsPairInPrecedence is_pair_in_precedence-Decides all)
-    (Decides-and _ _ (list_all-Decides _ (IsShiftKept s.aerodrome.k (filter waits all))
-    (is_shift_kept-Decides s.aerodrome.k (filter waits all)) (filter waits all))
-    (list_all-Decides _ (IsFrozenKept (horizon s)) (λ f. keeps_frozen-Decides (horizon s) f.second f.frozen) all))))))
+    }) (λ h. (h.in_days, (h.open_seconds, (h.separated, (h.in_precedence, (h.shift, h.frozen_kept))))))
+    (Decides-and _ _ (list_all-Decides _ _ (λ f. leb-Decides _ _) all) (Decides-and _ _ (list_all-Decides _ _
+    (λ f. itself _) all) (Decides-and _ _ (for_each_pair-Decides _ _ (is_pair_separated-Decides _) all)
+    (Decides-and _ _ (for_each_pair-Decides _ _ is_pair_in_precedence-Decides all)
+    (Decides-and _ _ (list_all-Decides _ _ (is_shift_kept-Decides _ (filter _ all)) _)
+    (list_all-Decides _ (IsFrozenKept (horizon s)) (λ f. keeps_frozen-Decides _ _ _) all))))))
 
 pub is_feasible-Decides : (s : Situation) (t : Schedule) → Decides (is_feasible s t) (IsFeasible s t)
-is_feasible-Decides s t =
-    Decides-and _ _ (Decides-eqb (length t) (length s.active)) (keeps_rules-Decides s (landings s.active t))
+is_feasible-Decides s t = Decides-and _ _ (Decides-eqb (length t) (length s.active)) (keeps_rules-Decides s _)

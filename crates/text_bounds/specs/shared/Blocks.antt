@@ -1,6 +1,6 @@
 -- How long a plan block is.
 use Rattle.std.proofs.Common.{◌≡◌, ℕ, ◌+◌, ◌*◌, ◌≤◌, List, [], ◌∷◌, ◌++◌, length, true, false, Bool, Option, Some}
-use Rattle.std.proofs.Common.{None, refl, arith, ap}
+use Rattle.std.proofs.Common.{None, refl, arith}
 use Rattle.std.specs.Prelude.{decimal, codes, map, option_map}
 use Rattle.std.proofs.lemmas.List.{length-append}
 use Rattle.landing_rules.specs.declared.objective.Objective.{Objective}
@@ -20,20 +20,16 @@ word_short false = omega arith
 landing_short : (f : ShownLanding) → length f.callsign ≤ 8 → length (decimal f.second) ≤ 6
     → length (line (landing_words f)) ≤ 29
 landing_short f name second =
-    let word = word_short f.frozen in
-    let a = length-append (decimal f.second) (frozen_word f.frozen) in
     let b = length-append f.callsign (codes " ") in
     let c = length-append (f.callsign ++ codes " ") (decimal f.second ++ frozen_word f.frozen) in
     let d = length-append (f.callsign ++ codes " " ++ (decimal f.second ++ frozen_word f.frozen)) (10 ∷ []) in
-    omega (arith, name, second, word, a, b, c, d)
+    omega (arith, name, second, word_short f.frozen, length-append (decimal f.second) (frozen_word f.frozen), b, c, d)
 
 landings_short : (fs : List ShownLanding) → AreReadable fs → length (lines_text (map landing_words fs)) ≤ 29 * length fs
 landings_short [] h = omega arith
 landings_short (f ∷ fs) h =
-    let one = landing_short f (callsign_short f.callsign h.0) (second_short f.second h.1) in
-    let rest = landings_short fs h.2 in
     let both = length-append (line (landing_words f)) (lines_text (map landing_words fs)) in
-    omega (arith, one, rest, both)
+    omega (arith, landing_short f (callsign_short _ h.0) (second_short _ h.1), landings_short fs h.2, both)
 
 objective_short : (o : Objective) → length (objective_word o) ≤ 9
 objective_short Makespan = omega arith
@@ -41,28 +37,23 @@ objective_short Delay = omega arith
 
 pub head_short : (o : Objective) (v : ℕ) → length (decimal v) ≤ 10 → length (line (head_words o v)) ≤ 20
 head_short o v value =
-    let word = objective_short o in
-    let a = length-append (objective_word o) (decimal v) in
     let b = length-append (head_words o v) (10 ∷ []) in
-    omega (arith, value, word, a, b)
+    omega (arith, value, objective_short o, length-append (objective_word o) (decimal v), b)
 
 pub block_short : (o : Objective) (p : ShownPlan) → IsReadable p
     → length (block_text o (Some p)) ≤ 20 + 29 * length p.landings
 block_short o p h =
-    let head = head_short o p.value (value_short p.value h.value) in
-    let rest = landings_short p.landings h.landings in
     let both = length-append (line (head_words o p.value)) (lines_text (map landing_words p.landings)) in
-    omega (arith, head, rest, both)
+    omega (arith, head_short o p.value (value_short p.value h.value), landings_short p.landings h.landings, both)
 
 pub plan_short : ShownPlanIsReadableLaw → BlockIsBoundedLaw
-plan_short law state sound = go state.plan refl
+plan_short law state sound = go _ refl
   where
     go : (q : Option Schedule) → state.plan ≡ q
         → length (lines_text (block_lines state.situation.aerodrome.objective
         (option_map (shown_plan state.situation) q))) ≤ block_bound (length state.situation.active)
     go None e = omega arith
     go (Some t) e =
-        let whole = block_short state.situation.aerodrome.objective (shown_plan state.situation t)
-        (law state (shown_plan state.situation t) sound (ap (option_map (shown_plan state.situation)) e)) in
-        let few = shown_few state.situation t in
-        omega (arith, whole, few)
+        let whole = block_short state.situation.aerodrome.objective _
+        (law state (shown_plan state.situation t) sound (cc)) in
+        omega (arith, whole, shown_few state.situation t)

@@ -19,75 +19,60 @@ use Rattle.text_bounds.specs.Certificates.{CertificateIsBoundedLaw, pair_count}
 use Rattle.text_bounds.specs.shared.Lengths.{callsign_short, rank_short, second_short, value_short}
 
 claim_short : (c : Claim) → IsClaim c → length (claim_text c) ≤ 24
-claim_short (Optimal v) h = let a = value_short v h in omega (arith, a)
+claim_short (Optimal v) h = omega (arith, value_short v h)
 claim_short Infeasible h = omega arith
 
 landing_short : (l : List ℕ × ℕ) → length l.0 ≤ 8 → length (decimal l.1) ≤ 6 → length (landing_text l) ≤ 20
-landing_short l name second = let a = length-append l.0 (32 ∷ decimal l.1) in omega (arith, name, second, a)
+landing_short l name second = omega (arith, name, second, length-append l.0 (32 ∷ decimal l.1))
 
 landings_short : (ls : List (List ℕ × ℕ)) → AreLandings ls → length (landing_lines ls) ≤ 21 * length ls
 landings_short [] h = omega arith
 landings_short (l ∷ ls) h =
     let one = landing_short l (callsign_short l.0 h.0) (second_short l.1 h.1) in
-    let rest = landings_short ls h.2 in
-    let both = length-append (landing_text l) (10 ∷ landing_lines ls) in
-    omega (arith, one, rest, both)
+    omega (arith, one, landings_short ls h.2, length-append (landing_text l) (10 ∷ landing_lines ls))
 
 pattern_few : (n : ℕ) → is_pattern_length n ≡ true → n ≤ 6
 pattern_few n e = grind (arith, nat_tests, e)
 
 pattern_short : (ds : List Bool) → is_pattern_length (length ds) ≡ true → length (pattern_text ds) ≤ 6
 pattern_short [] e = omega arith
-pattern_short (d ∷ ds) e =
-    let few = pattern_few (length (d ∷ ds)) e in
-    let same = length-map (d ∷ ds) digit_text in
-    omega (arith, few, same)
+pattern_short (d ∷ ds) e = omega (arith, pattern_few (length (d ∷ ds)) e, length-map (d ∷ ds) digit_text)
 
 pair_short : (p : Pair) → is_pair p ≡ true → length (pair_text p) ≤ 17
 pair_short p h =
     let both = and_parts (is_second p.0) (nat_le p.1 4294967295) h in
     let t : p.0 ≤ last_second = grind (arith, nat_tests, both.0) in
     let c : p.1 ≤ 4294967295 = grind (arith, nat_tests, both.1) in
-    let a = second_short p.0 t in
-    let b : length (decimal p.1) ≤ 10 = length-decimal-le 10 p.1 (omega arith) (omega (arith, c)) (omega (arith, c)) in
-    let d = length-append (decimal p.0) (58 ∷ decimal p.1) in
-    omega (arith, a, b, d)
+    let b = length-decimal-le 10 p.1 (omega arith) (omega (arith, c)) (omega (arith, c)) in
+    omega (arith, second_short p.0 t, b, length-append (decimal p.0) (58 ∷ decimal p.1))
 
 pairs_short : (ps : List Pair) → list_all is_pair ps ≡ true → length (pairs_text ps) ≤ 18 * length ps
 pairs_short [] h = omega arith
 pairs_short (p ∷ ps) h =
     let here = and_parts (is_pair p) (list_all is_pair ps) h in
     let one = pair_short p here.0 in
-    let rest = pairs_short ps here.1 in
-    let both = length-append (pair_text p) (pairs_text ps) in
-    omega (arith, one, rest, both)
+    omega (arith, one, pairs_short ps here.1, length-append (pair_text p) (pairs_text ps))
 
 state_short : (s : State) → IsState s → length (state_text s) ≤ 18 + 18 * length s.pairs
 state_short s h =
-    let stage = rank_short s.stage h.stage.1 in
-    let last = rank_short s.last h.last.1 in
-    let digits = pattern_short s.pattern h.pattern in
+    let last = rank_short _ h.last.1 in
     let pairs = pairs_short s.pairs h.pairs in
     let a = length-append (decimal s.last) (pairs_text s.pairs) in
     let b = length-append (pattern_text s.pattern) (32 ∷ (decimal s.last ++ pairs_text s.pairs)) in
     let c = length-append (decimal s.stage)
     (32 ∷ (pattern_text s.pattern ++ 32 ∷ (decimal s.last ++ pairs_text s.pairs))) in
-    omega (arith, stage, last, digits, pairs, a, b, c)
+    omega (arith, rank_short _ h.stage.1, last, pattern_short s.pattern h.pattern, pairs, a, b, c)
 
 states_short : (ss : List State) → AreStates ss → length (state_lines ss) ≤ 19 * length ss + 18 * pair_count ss
 states_short [] h = omega arith
 states_short (s ∷ ss) h =
     let one = state_short s h.0 in
-    let rest = states_short ss h.1 in
-    let both = length-append (state_text s) (10 ∷ state_lines ss) in
     let more = sum_by-cons (λ (x : State). length x.pairs) s ss in
-    omega (arith, one, rest, both, more)
+    omega (arith, one, states_short ss h.1, length-append (state_text s) (10 ∷ state_lines ss), more)
 
 pub certificate_short : CertificateIsBoundedLaw
 certificate_short c h =
-    let claim = claim_short c.claim h.claim in
-    let landings = landings_short c.landings h.landings in
-    let states = states_short c.states h.states in
+    let claim = claim_short _ h.claim in
     let a = length-append (landing_lines c.landings) (state_lines c.states) in
     let b = length-append (claim_text c.claim) (10 ∷ (landing_lines c.landings ++ state_lines c.states)) in
-    omega (arith, claim, landings, states, a, b)
+    omega (arith, claim, landings_short c.landings h.landings, states_short c.states h.states, a, b)

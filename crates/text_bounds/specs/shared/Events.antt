@@ -10,11 +10,10 @@ use Rattle.cps_base.specs.Text.{is_callsign}
 use Rattle.cps_base.specs.Limits.{most_events, most_closures, most_flights, most_waiting}
 use Rattle.arrivals.specs.declared.event.Event as log
 use Rattle.arrivals.specs.Seen.{event_of}
-use Rattle.csv_records.specs.Rows.{Fields, field, records_of}
+use Rattle.csv_records.specs.Rows.{Fields, field}
 use Rattle.event_log.specs.declared.fault.Col.TheVariants as columns
 use Rattle.event_log.specs.declared.fault.LogCause.{LogCause}
-use Rattle.event_log.specs.declared.fault.LogCause.TheVariants.{TooMany}
-use Rattle.event_log.specs.Columns.{callsign_in, category_in, column, empty_in, names_at, second_in, span_at, weight_in}
+use Rattle.event_log.specs.Columns.{callsign_in, category_in, column, empty_in, names_at, second_in, weight_in}
 use Rattle.event_log.specs.Columns.{windows_at}
 use Rattle.event_log.specs.Kinds.{add_in, cancel_in, clock_in, close_in, estimate_in, event_by, reopen_in}
 use Rattle.event_log.specs.Reading.{added, event_in, events_by, events_in, events_of, is_header}
@@ -58,92 +57,86 @@ by_cond P false x y p q = q
 
 callsign_named : (r : Fields) (f : List ℕ → Result log.Event LogCause)
     → ((c : List ℕ) → length c ≤ 8 → IfOk (f c) IsNamed) → IfOk (callsign_in r >>= f) IsNamed
-callsign_named r f h = then_ok (λ (c : List ℕ). length c ≤ 8) IsNamed (callsign_in r) f
+callsign_named r f h = then_ok _ _ _ f
     (elim (cases_Bool (is_callsign (column columns.Callsign r))) [
-      | inl here ↦ rw here (callsign_short (column columns.Callsign r) here)
+      | inl here ↦ rw here (callsign_short _ here)
       | inr other ↦ rw other tt
     ]) h
 
 estimate_named : (r : Fields) → IfOk (estimate_in r) IsNamed
 unfolding estimate_in
 estimate_named r =
-    callsign_named r _ (λ a short. follows (empty_in columns.Category r) _ (λ b.
-    follows (second_in r) _ (λ c. follows (empty_in columns.Weight r) _ (λ d.
+    callsign_named r _ (λ a short. follows _ _ (λ b. follows (second_in r) _ (λ c. follows _ _ (λ d.
     follows (windows_at r) _ (λ e. follows (empty_in columns.After r) _ (λ f. short))))))
 
 cancel_named : (r : Fields) → IfOk (cancel_in r) IsNamed
 unfolding cancel_in
 cancel_named r =
-    callsign_named r _ (λ a short. follows (empty_in columns.Category r) _ (λ b.
+    callsign_named r _ (λ a short. follows _ _ (λ b.
     follows (empty_in columns.Eta r) _ (λ c. follows (empty_in columns.Weight r) _ (λ d.
-    follows (empty_in columns.Windows r) _ (λ e. follows (empty_in columns.After r) _ (λ f. short))))))
+    follows _ _ (λ e. follows (empty_in columns.After r) _ (λ f. short))))))
 
 add_named : (r : Fields) → IfOk (add_in r) IsNamed
 unfolding add_in
 add_named r =
-    follows (callsign_in r) _ (λ a. follows (category_in r) _ (λ b.
-    follows (second_in r) _ (λ c. follows (weight_in r) _ (λ d.
-    follows (windows_at r) _ (λ e. follows (names_at a r) _ (λ f. tt))))))
+    follows _ _ (λ a. follows (category_in r) _ (λ b. follows _ _ (λ c. follows (weight_in r) _ (λ d.
+    follows _ _ (λ e. follows (names_at a r) _ (λ f. tt))))))
 
 close_named : (r : Fields) → IfOk (close_in r) IsNamed
 unfolding close_in
 close_named r =
-    follows (empty_in columns.Callsign r) _ (λ a. follows (empty_in columns.Category r) _ (λ b.
-    follows (empty_in columns.Eta r) _ (λ c. follows (empty_in columns.Weight r) _ (λ d.
-    follows (span_at r) _ (λ e. follows (empty_in columns.After r) _ (λ f. tt))))))
+    follows _ _ (λ a. follows (empty_in columns.Category r) _ (λ b.
+    follows _ _ (λ c. follows (empty_in columns.Weight r) _ (λ d.
+    follows _ _ (λ e. follows (empty_in columns.After r) _ (λ f. tt))))))
 
 reopen_named : (r : Fields) → IfOk (reopen_in r) IsNamed
 unfolding reopen_in
 reopen_named r =
-    follows (empty_in columns.Callsign r) _ (λ a. follows (empty_in columns.Category r) _ (λ b.
-    follows (empty_in columns.Eta r) _ (λ c. follows (empty_in columns.Weight r) _ (λ d.
-    follows (span_at r) _ (λ e. follows (empty_in columns.After r) _ (λ f. tt))))))
+    follows _ _ (λ a. follows (empty_in columns.Category r) _ (λ b.
+    follows _ _ (λ c. follows (empty_in columns.Weight r) _ (λ d.
+    follows _ _ (λ e. follows (empty_in columns.After r) _ (λ f. tt))))))
 
 clock_named : (r : Fields) → IfOk (clock_in r) IsNamed
 unfolding clock_in
 clock_named r =
-    follows (empty_in columns.Callsign r) _ (λ a. follows (empty_in columns.Category r) _ (λ b.
-    follows (second_in r) _ (λ c. follows (empty_in columns.Weight r) _ (λ d.
-    follows (empty_in columns.Windows r) _ (λ e. follows (empty_in columns.After r) _ (λ f. tt))))))
+    follows _ _ (λ a. follows (empty_in columns.Category r) _ (λ b.
+    follows _ _ (λ c. follows (empty_in columns.Weight r) _ (λ d.
+    follows _ _ (λ e. follows (empty_in columns.After r) _ (λ f. tt))))))
 
 kind_named : (kind : List ℕ) (r : Fields) → IfOk (event_by kind r) IsNamed
 unfolding event_by
 kind_named kind r =
-    by_cond IsNamed (bytes_eq kind (codes "estimate")) _ _ (estimate_named r)
-    (by_cond IsNamed (bytes_eq kind (codes "cancel")) _ _ (cancel_named r)
-    (by_cond IsNamed (bytes_eq kind (codes "add")) _ _ (add_named r)
-    (by_cond IsNamed (bytes_eq kind (codes "close")) _ _ (close_named r)
-    (by_cond IsNamed (bytes_eq kind (codes "reopen")) _ _ (reopen_named r)
-    (by_cond IsNamed (bytes_eq kind (codes "clock")) _ _ (clock_named r) tt)))))
+    by_cond _ (bytes_eq kind (codes "estimate")) _ _ (estimate_named r)
+    (by_cond _ (bytes_eq kind (codes "cancel")) _ _ (cancel_named r)
+    (by_cond _ (bytes_eq kind (codes "add")) _ _ (add_named r)
+    (by_cond _ (bytes_eq kind (codes "close")) _ _ (close_named r)
+    (by_cond _ (bytes_eq kind (codes "reopen")) _ _ (reopen_named r)
+    (by_cond _ (bytes_eq kind (codes "clock")) _ _ (clock_named r) tt)))))
 
 record_named : (n : ℕ) (r : Fields) → IfOk (event_in n r) IsNamed
 unfolding event_in
-record_named n r = by_cond IsNamed (not (length r == 7)) _ _ tt
-    (then_ok IsNamed IsNamed (event_by (field r 0) r) _ (kind_named (field r 0) r)
-    (λ e named. by_cond IsNamed (nat_le most_events n) (Err TooMany) (Ok e) tt named))
+record_named n r = by_cond _ (not (length r == 7)) _ _ tt (then_ok _ _ (event_by (field r 0) r) _ (kind_named _ r)
+    (λ e named. by_cond _ (nat_le most_events n) _ _ tt named))
 
 added_named : (before : List log.Event) (x : Result log.Event LogCause) → All IsNamed before → IfOk x IsNamed
     → IfOk (added before x) (All IsNamed)
-added_named before (Ok e) all named =
-    All-append IsNamed before (e ∷ []) all (All-cons IsNamed e [] named (All-nil IsNamed))
+added_named before (Ok e) all named = All-append IsNamed _ _ all (All-cons IsNamed e [] named (All-nil _))
 added_named before (Err d) all named = tt
 
 rows_named : (before : List log.Event) (rs : List Fields) → All IsNamed before
     → IfOk (events_in before rs) (All IsNamed)
 unfolding events_in
 rows_named before [] all = all
-rows_named before (r ∷ rs) all = then_ok (All IsNamed) (All IsNamed) (added before (event_in (length before) r)) _
-    (added_named before (event_in (length before) r) all (record_named (length before) r))
+rows_named before (r ∷ rs) all = then_ok _ _ _ _ (added_named _ _ all (record_named _ r))
     (λ events named. rows_named events rs named)
 
 all_named : (rs : List Fields) → IfOk (events_by rs) (All IsNamed)
 unfolding events_by
 all_named [] = tt
-all_named (r ∷ rs) = by_cond (All IsNamed) (is_header r) _ _ (rows_named [] rs (All-nil IsNamed)) tt
+all_named (r ∷ rs) = by_cond _ (is_header r) _ _ (rows_named [] rs (All-nil _)) tt
 
 pub log_named : (bytes : List ℕ) (es : List log.Event) → events_of bytes ≡ Ok es → All HasShortName (map event_of es)
-log_named bytes es is =
-    All-map HasShortName event_of es (IfOk-at_ok (All IsNamed) is (all_named (records_of bytes)))
+log_named bytes es is = All-map HasShortName _ es (IfOk-at_ok _ is (all_named _))
 
 -- ---- how long the cause of a refusal is
 
@@ -159,39 +152,33 @@ IsShort r = Unit {0}
 
 cause_short : (r : Refusal) → IsShort r → length (cause r) ≤ 30
 cause_short (UnknownFlight c) h = omega (arith, h)
-cause_short (Frozen t) h = let a = second_short t h in omega (arith, a)
+cause_short (Frozen t) h = omega (arith, second_short t h)
 cause_short (Duplicate c) h = omega (arith, h)
 cause_short (PredecessorOfFrozen c) h = omega (arith, h)
 cause_short (CoversFrozen c t) h =
-    let a = second_short t h.1 in
-    let b = length-append c (codes " ") in
     let d = length-append (c ++ codes " ") (decimal t) in
     let e = h.0 in
-    omega (arith, a, b, d, e)
-cause_short (ClockBack t) h = let a = second_short t h in omega (arith, a)
+    omega (arith, second_short t h.1, length-append c (codes " "), d, e)
+cause_short (ClockBack t) h = omega (arith, second_short t h)
 cause_short r h = omega arith
 
 module _ (s : Situation) (sound : IsSound s) where
   pub active_name : (a : Active) → Member a s.active → length a.flight.callsign ≤ 8
-  active_name a m = callsign_short a.flight.callsign
-      (all_at (λ (b : Active). IsGoodFlight b.flight) s.active sound.flights a m).callsign
+  active_name a m = callsign_short _ (all_at (λ (b : Active). IsGoodFlight b.flight) _ sound.flights a m).callsign
 
   -- a frozen flight's second is open
   pub frozen_second : (a : Active) (t : ℕ) → Member a s.active → a.frozen ≡ Some t → t ≤ last_second
   frozen_second a t m e =
-      let f = frozen_in s.active a t m e in
-      let good = all_at (λ (b : Active). IsGoodFlight b.flight) s.active sound.flights a m in
-      open_in_days a.flight.windows s.closures t good.windows.spans
-      (all_at (λ (x : Landing). IsTrue (is_open x.flight.windows s.closures x.second))
-      (frozen_landings s) sound.frozen_open (landing a t) f)
+      let good = all_at (λ (b : Active). IsGoodFlight b.flight) _ sound.flights a m in
+      open_in_days _ _ t good.windows.spans
+      (all_at (λ (x : Landing). IsTrue (is_open x.flight.windows s.closures x.second)) _ sound.frozen_open _
+      (frozen_in _ a t m e))
 
   of_frozen : (g : Landing) → Member g (frozen_landings s) → (length g.flight.callsign ≤ 8) × (g.second ≤ last_second)
   of_frozen g m =
-      let f = in_frozen s.active g m in
-      let name = active_name f.0 f.2 in
-      let second = frozen_second f.0 f.1 f.2 f.3 in
+      let f = in_frozen _ g m in
       let same : g ≡ landing f.0 f.1 = f.4 in
-      (rw same name, rw same second)
+      (rw same (active_name f.0 f.2), rw same (frozen_second f.0 f.1 f.2 f.3))
 
   unknown_short : (c : List ℕ) (r : Refusal) → length c ≤ 8 → unknown_or_frozen c (find (named c) s.active) ≡ Some r
       → IsShort r
@@ -202,8 +189,8 @@ module _ (s : Situation) (sound : IsSound s) where
         let w : option_map Frozen some.0.frozen ≡ Some r = rw some.1 at e in
         elim (cases_option some.0.frozen) [
           | inl waits ↦ (let x : None ≡ Some r = rw waits at w in absurd (cc x))
-          | inr t ↦ (let x : Some (Frozen t.0) ≡ Some r = rw t.1 at w in let v : Frozen t.0 ≡ r = cc in
-              subst IsShort v (frozen_second some.0 t.0 (found_in (named c) s.active some.0 some.1).0 t.1))
+          | inr t ↦ (let v : Frozen t.0 ≡ r = cc in
+              subst IsShort v (frozen_second _ t.0 (found_in _ _ _ some.1).0 t.1))
         ])
   ]
 
@@ -212,9 +199,8 @@ module _ (s : Situation) (sound : IsSound s) where
       (find (λ g. lists g.flight c) (frozen_landings s)) ≡ Some r → IsShort r
   preceding_short c r e = elim (cases_option (find (λ g. lists g.flight c) (frozen_landings s))) [
     | inl none ↦ (let w : None ≡ Some r = rw none at e in absurd (cc w))
-    | inr some ↦ (let w : Some (PredecessorOfFrozen some.0.flight.callsign) ≡ Some r =
-        rw some.1 at e in let v : PredecessorOfFrozen some.0.flight.callsign ≡ r = cc in
-        subst IsShort v (of_frozen some.0 (found_in (λ g. lists g.flight c) (frozen_landings s) some.0 some.1).0).0)
+    | inr some ↦ (let v : PredecessorOfFrozen some.0.flight.callsign ≡ r = cc in
+        subst IsShort v (of_frozen _ (found_in _ _ _ some.1).0).0)
   ]
 
   pub refusal_short : (e : Event) (r : Refusal) → IsInDays s.clock → IsGoodEvent e → HasShortName e
@@ -224,14 +210,12 @@ module _ (s : Situation) (sound : IsSound s) where
       added : (f : Flight) → IsGoodFlight f → refusal s (Add f) ≡ Some r → IsShort r
       added f good is = elim (cases_Bool (list_any (named f.callsign) s.active)) [
         | inl there ↦ (let w : Some (Duplicate f.callsign) ≡ Some r = rw there at is in
-            let v : Duplicate f.callsign ≡ r = cc in subst IsShort v (callsign_short f.callsign good.callsign))
+            let v : Duplicate f.callsign ≡ r = cc in subst IsShort v (callsign_short _ good.callsign))
         | inr new ↦ elim (cases_Bool (nat_le most_flights (length s.active))) [
-          | inl full ↦ (let w : Some TooManyFlights ≡ Some r = rw (new, full) at is in let v : TooManyFlights ≡ r =
-              cc in subst IsShort v tt)
+          | inl full ↦ (let v : TooManyFlights ≡ r = cc in subst IsShort v tt)
           | inr fits ↦ elim (cases_Bool (nat_le most_waiting (length (waiting s)))) [
-            | inl full ↦ (let w : Some TooManyWaiting ≡ Some r =
-                rw (new, fits, full) at is in let v : TooManyWaiting ≡ r = cc in subst IsShort v tt)
-            | inr few ↦ preceding_short f.callsign r (rw (new, fits, few) at is)
+            | inl full ↦ (let v : TooManyWaiting ≡ r = cc in subst IsShort v tt)
+            | inr few ↦ preceding_short _ r (rw (new, fits, few) at is)
           ]
         ]
       ]
@@ -243,10 +227,8 @@ module _ (s : Situation) (sound : IsSound s) where
               cc in subst IsShort v tt)
           | inr fits ↦ (let w : None ≡ Some r = rw (none, fits) at is in absurd (cc w))
         ]
-        | inr some ↦ (let w : Some (CoversFrozen some.0.flight.callsign some.0.second) ≡ Some r =
-            rw some.1 at is in let v : CoversFrozen some.0.flight.callsign some.0.second ≡ r = cc in
-            subst IsShort v (of_frozen some.0 (order_member some.0 (frozen_landings s)
-            (found_in (λ g. is_shut g.second span) (in_landing_order (frozen_landings s)) some.0 some.1).0)))
+        | inr some ↦ (let v : CoversFrozen some.0.flight.callsign some.0.second ≡ r = cc in
+            subst IsShort v (of_frozen _ (order_member _ _ (found_in _ _ _ some.1).0)))
       ]
 
       back : (last : Option ℕ) (now : ℕ) → IsInDays last → clock_back last now ≡ Some r → IsShort r
@@ -261,10 +243,9 @@ module _ (s : Situation) (sound : IsSound s) where
       go (Estimate c eta windows) good name is = unknown_short c r name is
       go (Cancel c) good name is = unknown_short c r name is
       go (Add f) good name is = added f good is
-      go (Close span) good name is = closed span is
+      go (Close span) good name is = closed _ is
       go (Reopen span) good name is = elim (cases_Bool (list_any (same_span span) s.closures)) [
         | inl there ↦ (let w : None ≡ Some r = rw there at is in absurd (cc w))
-        | inr none ↦ (let w : Some UnknownClosure ≡ Some r = rw none at is in let v : UnknownClosure ≡ r =
-            cc in subst IsShort v tt)
+        | inr none ↦ (let v : UnknownClosure ≡ r = cc in subst IsShort v tt)
       ]
-      go (Clock now) good name is = back s.clock now clock is
+      go (Clock now) good name is = back _ now clock is

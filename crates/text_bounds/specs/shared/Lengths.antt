@@ -23,6 +23,8 @@ rank_short n le = length-decimal-le 2 n (omega arith) (omega (arith, le)) (omega
 
 pub callsign_short : (c : List ℕ) → is_callsign c ≡ true → length c ≤ 8
 callsign_short c h =
-    let low = (and_parts _ (list_all is_callsign_byte c) h).0 in
-    let high = (and_parts (nat_le 2 (length c)) (nat_le (length c) 8) low).1 in
-    grind (arith, nat_tests, high)
+    grind (
+      arith,
+      nat_tests,
+      (and_parts (nat_le 2 (length c)) (nat_le (length c) 8) ((and_parts _ (list_all is_callsign_byte c) h).0)).1,
+    )

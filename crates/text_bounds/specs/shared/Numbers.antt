@@ -1,7 +1,6 @@
 -- A number that a text is, is in its range.
-use Rattle.std.proofs.Common.{◌≡◌, ℕ, ◌≤◌, inl, inr, List, Some, Ok, Err, Result, refl, ap, subst, arith}
+use Rattle.std.proofs.Common.{◌≡◌, ℕ, ◌≤◌, inl, inr, List, Some, Ok, Err, Result, refl, arith}
 use Rattle.std.specs.Prelude.{nat_lt}
-use Rattle.std.specs.Result.{result_ok}
 use Rattle.std.specs.Str.Parse.{digits_value}
 use Rattle.std.proofs.lemmas.Bool.{cases_Bool}
 use Rattle.std.proofs.lemmas.Bool.Decides.{nat_tests}
@@ -19,8 +18,7 @@ within text least most n e = elim (cases_Bool (is_number text)) [
     | inr reaches ↦ elim (cases_Bool (nat_lt most (digits_value 10 text))) [
       | inl above ↦ absurd (cc (rw (digits, reaches, above) at e))
       | inr fits ↦
-          (let w : Ok (digits_value 10 text) ≡ Ok n = rw (digits, reaches, fits) at e in
-          let same : digits_value 10 text ≡ n = same_Some _ _ (ap result_ok w) in
+          (let same : digits_value 10 text ≡ n = cc in
           (grind (arith, nat_tests, reaches, same), grind (arith, nat_tests, fits, same)))
     ]
   ]
@@ -28,8 +26,8 @@ within text least most n e = elim (cases_Bool (is_number text)) [
 
 pub in_most : (text : List ℕ) (least most n : ℕ) → number_in text least most ≡ Some n → n ≤ most
 unfolding number_in
-in_most text least most n e = go (number_within text least most) (λ m h. (within text least most m h).1) e
+in_most text least most n e = go _ (λ m h. (within _ _ _ m h).1) e
   where
     go : (r : Result ℕ NumberFault) → ((m : ℕ) → r ≡ Ok m → m ≤ most) → ok_of r ≡ Some n → n ≤ most
-    go (Ok m) h is = subst (λ (x : ℕ). x ≤ most) (same_Some m n is) (h m refl)
+    go (Ok m) h is = rw (same_Some m n is) at (h m refl)
     go (Err d) h is = absurd (cc is)

@@ -20,14 +20,11 @@ seconds_of ws = sum_by (λ (w : Span). w.1 + 1 - w.0) ws
 
 below_on : (ws : List Span) (t u : ℕ) → t ≤ u → below ws t ≤ below ws u
 below_on [] t u le = omega arith
-below_on (w ∷ ws) t u le = let rest = below_on ws t u le in omega (arith, rest, le)
+below_on (w ∷ ws) t u le = omega (arith, below_on ws t u le, le)
 
 below_all : (ws : List Span) (t : ℕ) → below ws t ≤ seconds_of ws
 below_all [] t = omega arith
-below_all (w ∷ ws) t =
-    let rest = below_all ws t in
-    let all = sum_by-cons (λ (x : Span). x.1 + 1 - x.0) w ws in
-    omega (arith, rest, all)
+below_all (w ∷ ws) t = omega (arith, below_all ws t, sum_by-cons (λ (x : Span). x.1 + 1 - x.0) w ws)
 
 inside : (t : ℕ) (w : Span) → is_within t w ≡ true → (w.0 ≤ t) × (t ≤ w.1)
 inside t w e =
@@ -36,38 +33,28 @@ inside t w e =
 
 below_more : (ws : List Span) (t u : ℕ) → list_any (is_within t) ws ≡ true → t < u → below ws t + 1 ≤ below ws u
 below_more [] t u e lt = absurd (cc e)
-below_more (w ∷ ws) t u e lt = elim (cases_Bool (is_within t w)) [
+below_more (w ∷ ws) t u e lt = elim (cases_Bool _) [
   | inl here ↦
       let at = inside t w here in
-      let first = at.0 in
-      let last = at.1 in
       let rest = below_on ws t u (omega (arith, lt)) in
-      omega (arith, first, last, rest, lt)
+      omega (arith, at.0, at.1, rest, lt)
   | inr other ↦
       let there : list_any (is_within t) ws ≡ true = rw other at e in
-      let rest = below_more ws t u there lt in
-      omega (arith, rest, lt)
+      omega (arith, below_more ws t u there lt, lt)
 ]
 
 -- pairs whose seconds are each in a window
 pub pairs_few : (ws : List Span) (ps : List Pair) → rises ps ≡ true
     → ((q : Pair) → InPairs q ps → list_any (is_within q.0) ws ≡ true) → length ps ≤ seconds_of ws
 pairs_few ws [] up each = omega arith
-pairs_few ws (p ∷ ps) up each =
-    let all = go p ps up each in
-    omega (arith, all)
+pairs_few ws (p ∷ ps) up each = omega (arith, go p ps up each)
   where
     go : (p : Pair) (ps : List Pair) → rises (p ∷ ps) ≡ true
         → ((q : Pair) → InPairs q (p ∷ ps) → list_any (is_within q.0) ws ≡ true)
         → below ws p.0 + length (p ∷ ps) ≤ seconds_of ws
     go p [] up each =
-        let more = below_more ws p.0 (p.0 + 1) (each p (inl refl)) (omega arith) in
-        let all = below_all ws (p.0 + 1) in
-        omega (arith, more, all)
+        omega (arith, below_more ws p.0 (p.0 + 1) (each p (inl refl)) (omega arith), below_all ws (p.0 + 1))
     go p (q ∷ ps) up each =
         let both = and_parts (nat_lt p.0 q.0 && nat_lt q.1 p.1) (rises (q ∷ ps)) up in
-        let later = (and_parts (nat_lt p.0 q.0) (nat_lt q.1 p.1) both.0).0 in
-        let lt : p.0 < q.0 = grind (arith, nat_tests, later) in
-        let more = below_more ws p.0 q.0 (each p (inl refl)) lt in
-        let rest = go q ps both.1 (λ r i. each r (inr i)) in
-        omega (arith, more, rest)
+        let lt : p.0 < q.0 = grind (arith, nat_tests, (and_parts (nat_lt p.0 q.0) (nat_lt q.1 p.1) both.0).0) in
+        omega (arith, below_more ws p.0 q.0 (each p (inl refl)) lt, go q ps both.1 (λ r i. each r (inr i)))

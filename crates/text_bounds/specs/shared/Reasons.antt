@@ -20,10 +20,10 @@ use Rattle.cert_check.specs.declared.verdict.Reason.TheVariants.{Closed, Early, 
 use Rattle.cert_check.specs.declared.verdict.Reason.TheVariants.{Shape, Shift, Successor, Value}
 use Rattle.cert_check.specs.declared.verdict.Verdict.{Verdict}
 use Rattle.cert_check.specs.declared.verdict.Verdict.TheVariants as verdict
-use Rattle.cert_check.specs.Landings.{Landings, are_not_flights, count, first_out_of_order, first_too_close, is_early}
-use Rattle.cert_check.specs.Landings.{is_shifted, is_shut, second_of, seconds}
-use Rattle.cert_check.specs.States.{final_failure, first_missed, is_final, is_final_below, is_misshapen, missed_from}
-use Rattle.cert_check.specs.States.{node_of, pairs_of, start_node, successor_failure}
+use Rattle.cert_check.specs.Landings.{Landings, are_not_flights, count, first_out_of_order, first_too_close}
+use Rattle.cert_check.specs.Landings.{second_of, seconds}
+use Rattle.cert_check.specs.States.{final_failure, missed_from}
+use Rattle.cert_check.specs.States.{successor_failure}
 use Rattle.cert_check.specs.Verdict.{claim_reason, failure, flights_reason, landing_reason, state_reason, value_reason}
 use Rattle.cert_check.specs.Verdict.{verdict_by, verdict_of, with_pair}
 use Rattle.cert_check.specs.shared.Values.{objective_low}
@@ -72,7 +72,7 @@ first_found : (test : ℕ → Bool) (x m most : ℕ) → x + m ≤ most + 1 → 
 first_found test x zero most le = tt
 first_found test x (suc m) most le = elim (cases_Bool (test x)) [
   | inl here ↦ rw here (omega (arith, le))
-  | inr later ↦ rw later (first_found test (suc x) m most (omega (arith, le)))
+  | inr later ↦ rw later (first_found test _ m _ (omega (arith, le)))
 ]
 
 abbrev AreBelow : ℕ → ℕ → ℕ × ℕ → Type 0
@@ -87,8 +87,8 @@ pairs_found : (find : ℕ → Option ℕ) (x m a b : ℕ) → x + m ≤ a + 1 �
     → IfFound (AreBelow a b) (first_pair_from find x m)
 pairs_found find x zero a b le h = tt
 pairs_found find x (suc m) a b le h =
-    or_found (AreBelow a b) (with_number x (find x)) (first_pair_from find (suc x) m)
-    (number_found x (find x) a b (omega (arith, le)) (h x)) (pairs_found find (suc x) m a b (omega (arith, le)) h)
+    or_found (AreBelow a b) _ _
+    (number_found x _ a b (omega (arith, le)) (h x)) (pairs_found _ (suc x) m a b (omega (arith, le)) h)
 
 element_found : {S : Type 0} (test : S → Bool) (i most : ℕ) (ss : List S) → i + length ss ≤ most + 1
     → IfFound (λ y. y ≤ most) (element_from test i ss)
@@ -96,7 +96,7 @@ unfolding element_from
 element_found test i most [] le = tt
 element_found test i most (s ∷ ss) le = elim (cases_Bool (test s)) [
   | inl here ↦ rw here (omega (arith, le))
-  | inr later ↦ rw later (element_found test (i + 1) most ss (omega (arith, le)))
+  | inr later ↦ rw later (element_found _ (i + 1) _ ss (omega (arith, le)))
 ]
 
 -- ---- the seconds of the landings
@@ -105,43 +105,37 @@ second_low : (ls : Landings) (name : List ℕ) → AreLandings ls → second_of 
 second_low [] name h = omega arith
 second_low (l ∷ ls) name h = elim (cases_Bool (bytes_eq l.0 name)) [
   | inl here ↦ rw here h.1
-  | inr later ↦ rw later (second_low ls name h.2)
+  | inr later ↦ rw later (second_low ls _ h.2)
 ]
 
 seconds_low : (fs : List Waiting) (ls : Landings) → AreLandings ls
     → All (λ t. t ≤ last_second) (map (λ f. second_of ls f.callsign) fs)
-seconds_low [] ls h = All-nil (λ t. t ≤ last_second)
-seconds_low (f ∷ fs) ls h = All-cons (λ t. t ≤ last_second) (second_of ls f.callsign)
-    (map (λ f. second_of ls f.callsign) fs) (second_low ls f.callsign h) (seconds_low fs ls h)
+seconds_low [] ls h = All-nil _
+seconds_low (f ∷ fs) ls h = All-cons (λ t. t ≤ last_second) _ _ (second_low ls _ h) (seconds_low fs ls h)
 
 module _ (p : Problem) (well : IsWellFormed p) where
   abbrev Few : ℕ → Type 0
   Few y = y ≤ most_waiting
 
   ranks_found : (test : ℕ → Bool) → IfFound Few (first_from test 1 (count p))
-  ranks_found test = first_found test 1 (count p) most_waiting (let few = well.few_flights in omega (arith, few))
+  ranks_found test = first_found test 1 _ _ (omega arith)
 
   value_found : (v : ℕ) (ls : Landings) → AreLandings ls → IfFound HasSmallNumbers (value_reason p v ls)
   value_found v ls h = elim (cases_Bool (list_objective p (seconds p ls) == v)) [
     | inl same ↦ rw same tt
-    | inr other ↦ rw other (objective_low p (seconds p ls) well (seconds_low p.flights ls h))
+    | inr other ↦ rw other (objective_low p _ well (seconds_low _ ls h))
   ]
 
   landing_found : (v : ℕ) (ls : Landings) → AreLandings ls → IfFound HasSmallNumbers (landing_reason p v ls)
   unfolding landing_reason
   landing_found v ls h =
-      or_found HasSmallNumbers _ _ (map_found Few HasSmallNumbers Closed _ (λ r le. le) (ranks_found (is_shut p ls)))
-      (or_found HasSmallNumbers _ _ (map_found Few HasSmallNumbers Early _ (λ r le. le) (ranks_found (is_early p ls)))
-      (or_found HasSmallNumbers _ _ (pair_found (AreBelow most_waiting most_waiting) HasSmallNumbers Separation
-      (first_pair_from (first_too_close p ls) 1 (count p)) (λ x le. le)
-      (pairs_found (first_too_close p ls) 1 (count p) most_waiting most_waiting (let few =
-      well.few_flights in omega (arith, few)) (λ r. ranks_found _)))
-      (or_found HasSmallNumbers _ _ (pair_found (AreBelow most_waiting most_waiting) HasSmallNumbers Precedence
+      or_found HasSmallNumbers _ _ (map_found Few _ _ _ (λ r le. le) (ranks_found _))
+      (or_found HasSmallNumbers _ _ (map_found Few _ _ _ (λ r le. le) (ranks_found _))
+      (or_found HasSmallNumbers _ _ (pair_found _ _ _ (first_pair_from (first_too_close p ls) 1 (count p)) (λ x le. le)
+      (pairs_found _ 1 _ _ _ (omega arith) (λ r. ranks_found _))) (or_found HasSmallNumbers _ _ (pair_found _ _ _
       (first_pair_from (first_out_of_order p ls) 1 (count p)) (λ x le. le)
-      (pairs_found (first_out_of_order p ls) 1 (count p) most_waiting most_waiting (let few =
-      well.few_flights in omega (arith, few)) (λ r. ranks_found _)))
-      (or_found HasSmallNumbers _ _ (map_found Few HasSmallNumbers Shift _ (λ r le. le) (ranks_found (is_shifted p ls)))
-      (value_found v ls h)))))
+      (pairs_found _ 1 _ _ _ (omega arith) (λ r. ranks_found _)))
+      (or_found HasSmallNumbers _ _ (map_found Few _ _ _ (λ r le. le) (ranks_found _)) (value_found v ls h)))))
 
   module _ (c : Claim) (ss : List State) (few : length ss < most_states) where
     missed_found : (i : ℕ) (rest : List State) → i + length rest ≤ most_states + 1
@@ -149,34 +143,29 @@ module _ (p : Problem) (well : IsWellFormed p) where
     unfolding closure.missed_from closure.first_missed
     missed_found i [] le = tt
     missed_found i (s ∷ rest) le =
-        or_found (AreBelow most_states most_waiting) (with_number i (first_missed p ss (node_of s) (pairs_of s)))
-        (missed_from p ss (i + 1) rest)
-        (number_found i (first_missed p ss (node_of s) (pairs_of s)) most_states most_waiting
+        or_found _ _ (missed_from p ss (i + 1) rest) (number_found i _ _ _
         (omega (arith, le)) (ranks_found _)) (missed_found (i + 1) rest (omega (arith, le)))
 
     successor_found : IfFound (AreBelow most_states most_waiting) (successor_failure p ss)
     unfolding closure.first_missed
     successor_found =
-        or_found (AreBelow most_states most_waiting) (with_number 0 (first_missed p ss (start_node p) ((0, 0) ∷ [])))
-        (missed_from p ss 1 ss)
-        (number_found 0 (first_missed p ss (start_node p) ((0, 0) ∷ [])) most_states most_waiting
+        or_found _ _ (missed_from p ss 1 ss) (number_found 0 _ _ _
         (omega arith) (ranks_found _)) (missed_found 1 ss (omega (arith, few)))
 
     final_found : (d : Claim) → IfFound (λ y. y ≤ most_states) (final_failure p d ss)
-    final_found (claim.Optimal v) = element_found (is_final_below p v) 1 most_states ss (omega (arith, few))
+    final_found (claim.Optimal v) = element_found _ 1 _ ss (omega (arith, few))
     final_found claim.Infeasible = elim (cases_Bool (count p == 0)) [
       | inl none ↦ rw none (omega arith)
-      | inr some ↦ rw some (element_found (is_final p) 1 most_states ss (omega (arith, few)))
+      | inr some ↦ rw some (element_found _ 1 _ ss (omega (arith, few)))
     ]
 
     state_found : IfFound HasSmallNumbers (state_reason p c ss)
     unfolding state_reason
     state_found =
-        or_found HasSmallNumbers _ _ (map_found (λ y. y ≤ most_states) HasSmallNumbers Shape _
-        (λ i le. le) (element_found (is_misshapen p) 1 most_states ss (omega (arith, few))))
-        (or_found HasSmallNumbers _ _ (pair_found (AreBelow most_states most_waiting) HasSmallNumbers Successor
+        or_found HasSmallNumbers _ _ (map_found (λ y. y ≤ most_states) _ _ _
+        (λ i le. le) (element_found _ 1 _ ss (omega (arith, few)))) (or_found HasSmallNumbers _ _ (pair_found _ _ _
         (successor_failure p ss) (λ x le. le) successor_found)
-        (map_found (λ y. y ≤ most_states) HasSmallNumbers Final _ (λ i le. le) (final_found c)))
+        (map_found (λ y. y ≤ most_states) _ _ _ (λ i le. le) (final_found c)))
 
   claim_found : (c : Claim) (ls : Landings) → AreLandings ls → IfFound HasSmallNumbers (claim_reason p c ls)
   claim_found (claim.Optimal v) ls h = landing_found v ls h
@@ -194,6 +183,5 @@ module _ (p : Problem) (well : IsWellFormed p) where
   pub verdict_has_small_numbers : (c : Cert) → IsCertificate c → IsSmall (verdict_of p c)
   unfolding verdict_of failure
   verdict_has_small_numbers c h =
-      verdict_small c.claim _ h.claim
-      (or_found HasSmallNumbers _ _ (flights_found c.claim c.landings)
-      (or_found HasSmallNumbers _ _ (claim_found c.claim c.landings h.landings) (state_found c.claim c.states h.few)))
+      verdict_small _ _ h.claim (or_found HasSmallNumbers _ _ (flights_found c.claim _)
+      (or_found HasSmallNumbers _ _ (claim_found _ _ h.landings) (state_found _ c.states h.few)))

@@ -14,17 +14,13 @@ first_short : (o : Objective) (plan : Option ShownPlan) → MatchOption plan ⊤
     → length (lines_text (take 1 (block_lines o plan))) ≤ 20
 first_short o None h = omega arith
 first_short o (Some p) h =
-    let head = head_short o p.value (value_short p.value h) in
-    let all = length-append (line (head_words o p.value)) [] in
-    omega (arith, head, all)
+    omega (arith, head_short o p.value (value_short p.value h), length-append (line (head_words o p.value)) [])
 
 pub trial_short : TrialIsBoundedLaw
 trial_short n k nodes o plan few near small h =
-    let first = first_short o plan h in
     let a = length-decimal-le 2 n (omega arith) (omega (arith, few)) (omega (arith, few)) in
     let b = length-decimal-le 1 k (omega arith) (omega (arith, near)) (omega (arith, near)) in
     let c = length-decimal-le 8 nodes (omega arith) (omega (arith, small)) (omega (arith, small)) in
-    let x = length-append (decimal n) (10 ∷ []) in
     let y = length-append (decimal k) (10 ∷ []) in
     let z = length-append (decimal nodes) (10 ∷ []) in
     let third = length-append (line (codes "nodes " ++ decimal nodes)) (lines_text (take 1 (block_lines o plan))) in
@@ -32,4 +28,4 @@ trial_short n k nodes o plan few near small h =
     ++ lines_text (take 1 (block_lines o plan))) in
     let whole = length-append (line (codes "flights " ++ decimal n)) (line (codes "k " ++ decimal k)
     ++ (line (codes "nodes " ++ decimal nodes) ++ lines_text (take 1 (block_lines o plan)))) in
-    omega (arith, first, a, b, c, x, y, z, third, second, whole)
+    omega (arith, first_short o plan h, a, b, c, length-append (decimal n) (10 ∷ []), y, z, third, second, whole)

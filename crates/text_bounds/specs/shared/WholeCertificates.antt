@@ -1,6 +1,6 @@
 -- How long a certificate is that leaves nothing out: by its landings, its states and their pairs.
-use Rattle.std.proofs.Common.{◌≡◌, ℕ, zero, suc, ◌≤◌, inl, inr, List, [], ◌∷◌, length, get_or, true, refl, sym, ap}
-use Rattle.std.proofs.Common.{subst, ◌∙◌, arith}
+use Rattle.std.proofs.Common.{◌≡◌, ℕ, zero, suc, ◌≤◌, inl, inr, List, [], ◌∷◌, length, true, refl, sym, ap}
+use Rattle.std.proofs.Common.{◌∙◌, arith}
 use Rattle.std.specs.Prelude.{All, not}
 use Rattle.std.specs.List.{AllZip, list_any}
 use Rattle.std.proofs.Math.Nat.{mul-le-mul_right}
@@ -10,13 +10,12 @@ use Rattle.std.proofs.lemmas.List.{get_or_past}
 use Rattle.std.proofs.lemmas.List.Sums.{sum_by-le}
 use Rattle.landing_rules.specs.declared.objective.Objective.{Objective}
 use Rattle.landing_rules.specs.declared.objective.Objective.TheVariants.{Makespan, Delay}
-use Rattle.landing_rules.specs.Flights.{Active, Situation, Span, waiting, is_waiting}
+use Rattle.landing_rules.specs.Flights.{Active, Situation, Span, waiting}
 use Rattle.cps_base.specs.Limits.{most_open_seconds}
-use Rattle.landing_rules.specs.Rules.{arrival_cmp, is_shut, is_within}
+use Rattle.landing_rules.specs.Rules.{is_shut, is_within}
 use Rattle.landing_rules.specs.Problem.{IsWaitingOf, Problem, Waiting, by_rank, insert_by_rank}
 use Rattle.landing_rules.specs.Sound.{IsSound}
 use Rattle.landing_rules.specs.shared.Members.{all_at, all_from, member_permutation}
-use Rattle.std.specs.Ordering.{is_lt}
 use Rattle.std.specs.Prelude.{IsPermutation}
 use Rattle.std.proofs.lemmas.List.Sorted.{IsPermutation-sym}
 use Rattle.landing_joint.specs.shared.Insertion.{sort_moves}
@@ -34,8 +33,8 @@ use Rattle.text_bounds.specs.WholeCertificates.{LoadableIsShortLaw, WholeCertifi
 use Rattle.text_bounds.specs.shared.OpenSeconds.{pairs_few, seconds_of}
 
 as_many_landings : (p : Problem) (claimed : Claim) (ls : Landings) → IsAnswered p claimed ls → length ls ≤ count p
-as_many_landings p (claim.Optimal v) ls h = let e = h.landings.as_many in omega (arith, e)
-as_many_landings p claim.Infeasible ls h = let e : length ls ≡ 0 = ap length h.0 in omega (arith, e)
+as_many_landings p (claim.Optimal v) ls h = omega arith
+as_many_landings p claim.Infeasible ls h = omega (arith, ap length h.0)
 
 -- ---- the open seconds of each waiting flight
 
@@ -44,17 +43,13 @@ abbrev HasFewSeconds : Active → Type 0
 HasFewSeconds a = seconds_of a.flight.windows ≤ most_open_seconds
 
 rank_permutes : (active : List Active) → IsPermutation active (by_rank active)
-rank_permutes active =
-    sort_moves (λ (b a : Active). is_lt (arrival_cmp b.flight a.flight)) insert_by_rank (λ a. refl)
-    (λ a b bs. refl) by_rank refl (λ a rest. refl) active
+rank_permutes active = sort_moves _ insert_by_rank (λ a. refl) (λ a b bs. refl) by_rank refl (λ a rest. refl) _
 
 few_by_rank : (s : Situation) → IsSound s → All HasFewSeconds (by_rank (waiting s))
 few_by_rank s sound =
     let all : All HasFewSeconds s.active = λ i a lt. (sound.flights i a lt).windows.seconds in
-    let waits : All HasFewSeconds (waiting s) = All-filter is_waiting HasFewSeconds s.active all in
-    all_from HasFewSeconds (by_rank (waiting s)) (λ a m. all_at HasFewSeconds (waiting s) waits a
-    (member_permutation (by_rank (waiting s)) (waiting s) a
-    (IsPermutation-sym (waiting s) (by_rank (waiting s)) (rank_permutes (waiting s))) m))
+    all_from _ _ (λ a m. all_at HasFewSeconds _ (All-filter _ HasFewSeconds _ all) a (member_permutation _ _ a
+    (IsPermutation-sym (waiting s) (by_rank (waiting s)) (rank_permutes _)) m))
 
 -- pairs at such seconds are few
 abbrev HasFewPairs : Waiting → Type 0
@@ -67,17 +62,16 @@ module _ (closures : List Span) where
       let inside : (q : Pair) → InPairs q ps → list_any (is_within q.0) a.flight.windows ≡ true = λ q i.
       (and_parts (list_any (is_within q.0) a.flight.windows) (not (list_any (is_shut q.0) closures))
       (sym (of.open_spans.same q.0) ∙ each q i)).0 in
-      let all = pairs_few a.flight.windows ps up inside in
-      omega (arith, all, few)
+      omega (arith, pairs_few _ ps up inside, few)
 
   few_each : (active : List Active) (ws : List Waiting) → AllZip (IsWaitingOf closures) active ws
       → All HasFewSeconds active → All HasFewPairs ws
-  few_each [] [] z h = λ i d lt. absurd (omega (arith, lt))
+  few_each [] [] z h = omega arith
   few_each [] (w ∷ ws) z h = absurd z
   few_each (a ∷ active) [] z h = absurd z
   few_each (a ∷ active) (w ∷ ws) z h =
-      All-cons HasFewPairs w ws (few_pairs a w z.0 (All-head HasFewSeconds a active h))
-      (few_each active ws z.1 (All-tail HasFewSeconds a active h))
+      All-cons HasFewPairs w ws (few_pairs a w z.0 (All-head HasFewSeconds a _ h))
+      (few_each active ws z.1 (All-tail HasFewSeconds a _ h))
 
 no_pairs : HasFewPairs no_waiting
 no_pairs [] up each = omega arith
@@ -87,7 +81,7 @@ few_at : (ws : List Waiting) (r : ℕ) → All HasFewPairs ws → HasFewPairs (o
 few_at ws zero h = no_pairs
 few_at ws (suc i) h = elim (cases_lt i (length ws)) [
   | inl within ↦ h i no_waiting within
-  | inr past ↦ subst HasFewPairs (sym (get_or_past ws i no_waiting past)) no_pairs
+  | inr past ↦ rw (get_or_past ws i _ past) no_pairs
 ]
 
 -- ---- all states
@@ -95,27 +89,24 @@ few_at ws (suc i) h = elim (cases_lt i (length ws)) [
 pairs_by : (o : Objective) (p : Problem) (s : State) → p.objective ≡ o → MakespanPairsLaw → PairsAreOpenLaw
     → All HasFewPairs p.flights → IsWholeState p s → length s.pairs ≤ most_pairs o
 pairs_by Makespan p s e single seconds few h = single p s e h
-pairs_by Delay p s e single seconds few h = few_at p.flights s.last few s.pairs h.rising (λ q i. seconds p s q h i)
+pairs_by Delay p s e single seconds few h = few_at _ _ few s.pairs h.rising (λ q i. seconds p s q h i)
 
 pub whole_short : CertificateIsBoundedLaw → WholeStatesAreFewLaw → MakespanPairsLaw → PairsAreOpenLaw
     → WholeCertificateIsBoundedLaw
 whole_short bound states single seconds s p c sound of well form whole =
-    let n = length p.flights in
     let m = most_pairs p.objective in
-    let few = few_each s.closures (by_rank (waiting s)) p.flights of.flights (few_by_rank s sound) in
-    let landings = as_many_landings p c.claim c.landings whole.answer in
+    let few = few_each _ _ _ of.flights (few_by_rank s sound) in
     let count = states p c.states well whole.states in
-    let pairs = sum_by-le (λ (x : State). length x.pairs) m c.states
-    (λ i x lt. pairs_by p.objective p (get_or c.states i x) refl single seconds few (whole.states.each i x lt)) in
-    let more = mul-le-mul_right m count in
+    let pairs = sum_by-le (λ (x : State). length x.pairs) m _
+    (λ i x lt. pairs_by _ p _ refl single seconds few (whole.states.each i x lt)) in
     let text = bound c form in
-    omega (arith, landings, count, pairs, more, text)
+    omega (arith, as_many_landings p c.claim c.landings whole.answer, count, pairs, mul-le-mul_right m count, text)
 
 pub loadable_short : LoadableIsShortLaw
-loadable_short Makespan zero n h = let few = h.1 in omega (arith, few)
-loadable_short Makespan (suc zero) n h = let few = h.1 in omega (arith, few)
-loadable_short Makespan (suc (suc zero)) n h = let few = h.1 in omega (arith, few)
-loadable_short Makespan (suc (suc (suc k))) n h = let few = h.1 in omega (arith, few)
+loadable_short Makespan zero n h = omega arith
+loadable_short Makespan (suc zero) n h = omega arith
+loadable_short Makespan (suc (suc zero)) n h = omega arith
+loadable_short Makespan (suc (suc (suc k))) n h = omega arith
 loadable_short Delay zero n h = omega (arith, h)
 loadable_short Delay (suc zero) n h = omega (arith, h)
 loadable_short Delay (suc (suc zero)) n h = omega (arith, h)

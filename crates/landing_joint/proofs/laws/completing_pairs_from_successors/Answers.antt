@@ -13,13 +13,12 @@ returns c = record {
   before = λ p v lists rs pairs is l short nexts cover. successor_pairs p (ranked_sound p is) v rs l
       (λ q. InPairs q pairs) (λ os q. InPairs q (lists os)) short nexts cover;
   earliest = λ p rs e b here least. (
-    λ c. le_trans (least c.landings c.legal c.landed c.one_node) c.by,
+    λ c. le_trans (search) c.by,
     λ le. record {
       landings = here.landings;
       legal = here.legal;
       landed = here.landed;
-      one_node =
-          here.one_node;
+      one_node = here.one_node;
       by = le_trans here.by le;
     },
   );

@@ -8,8 +8,7 @@ returns c = record {
   step = step_counts;
   run = few_pass;
   later = few_pass_later;
-  first =
-      few_pass_first;
+  first = few_pass_first;
   exactly = clock_counts_exactly;
   anyone = few_pass_anyone;
 }

@@ -1,4 +1,4 @@
-use Rattle.std.proofs.Common.{◌≡◌, ◌∷◌, [], ◌≤◌, ◌<◌, refl, arith, true, false, ℕ, Bool, List, cond, nat_lt, map}
+use Rattle.std.proofs.Common.{◌≡◌, ◌∷◌, [], ◌≤◌, ◌<◌, refl, arith, true, false, ℕ, Bool, List, cond, map}
 use Rattle.std.proofs.Common.{filter}
 use Rattle.std.proofs.lemmas.Bool.{false≢true}
 use Rattle.std.proofs.lemmas.Bool.Decides.{nat_tests}
@@ -14,7 +14,7 @@ use Rattle.landing_rules.proofs.examples.first_best_of_two_orders.Goals as goal
 
 best_first : IsBest closed_pair (1000 ∷ 1200 ∷ [])
 unfolding separation
-best_first = best_of_two closed_pair (1000 ∷ 1200 ∷ []) refl refl (λ a b h. grind (arith, nat_tests))
+best_first = best_of_two _ _ refl refl (λ a b h. grind (arith, nat_tests))
 
 seconds : (a b : ℕ) → is_feasible closed_pair (a ∷ b ∷ []) ≡ true → a < b → (1000 ≤ a) × (1200 ≤ b)
 unfolding separation
@@ -22,7 +22,7 @@ seconds a b h l = grind (arith, nat_tests)
 
 tight_first : IsTight closed_pair (1000 ∷ 1200 ∷ [])
 unfolding separation
-tight_first = tight_of_two closed_pair (1000 ∷ 1200 ∷ []) refl refl (λ a b h o. let later : a < b =
+tight_first = tight_of_two _ _ refl refl (λ a b h o. let later : a < b =
     (o 0 1 (omega arith) (omega arith)).0 (omega arith) in let s = seconds a b h later in (s.0, (s.1, tt)))
 
 -- the order of ranks by whether rank 2 lands first
@@ -35,7 +35,7 @@ order_by a b c =
 
 -- whichever lands first, rank 1 first is no later
 either : (a b : ℕ) → ComesNoLater (1 ∷ 2 ∷ []) (order_of closed_pair (a ∷ b ∷ []))
-either a b = by (nat_lt b a)
+either a b = by _
   where
     by : (c : Bool) → ComesNoLater (1 ∷ 2 ∷ []) (order_by a b c)
     by true = refl
@@ -50,7 +50,7 @@ returns-clause-first c = record {
 
 pub returns-clause-best : goal.returns-clause-best
 unfolding separation
-returns-clause-best c = best_of_two closed_pair (1200 ∷ 1010 ∷ []) refl refl (λ a b h. grind (arith, nat_tests))
+returns-clause-best c = best_of_two _ _ refl refl (λ a b h. grind (arith, nat_tests))
 
 pub returns-clause-not_first : goal.returns-clause-not_first
 returns-clause-not_first c = λ f. false≢true (f.first (1000 ∷ 1200 ∷ []) best_first tight_first)
