@@ -13,8 +13,8 @@ use Rattle.cps_problem.specs.shared.OneDifference.{one_first_difference}
 use Rattle.cps_network.specs.Due.{HasCandidates, HasCandidatesIf, HasCandidatesWhere, IsDue}
 use Rattle.cps_network.specs.Lists.{IsAscending}
 
-never_both : (x y : List ℤ) → window_cmp x y ≡ Less → window_cmp y x ≡ Less → ⊥
-never_both x y a b = less_greater (sym a ∙ window_cmp_total.antisymm x y ∙ ap ordering_reverse b)
+pub never_both : (x y : List ℤ) → window_cmp x y ≡ Less → window_cmp y x ≡ Less → ⊥
+never_both x y a b = grind (arith, window_cmp_total.antisymm)
   where
     less_greater : ◌≡◌ {A = Ordering} Less Greater → ⊥
     less_greater e = cc
@@ -79,13 +79,9 @@ pub one_where : (test : ℕ → Bool) (p : Problem) (n a b : ℕ) → HasCandida
     → HasCandidatesWhere test p n b → a ≡ b
 one_where test p zero a b x y = x ∙ sym y
 one_where test p (suc n) a b (c, d, h, r, e) (c', d', h', r', e') =
-    let f : c ≡ c' = one_if (test (suc n)) p n c c' h h' in
-    let g : d ≡ d' = one_where test p n d d' r r' in
-    omega (arith, e, e', f, g)
+    grind (arith, one_if, (one_where test p n d d' r r'))
 
 pub one_due : (held : Option Problem) (p : Problem) (a b : ℕ) → IsDue held p a → IsDue held p b → a ≡ b
-one_due None p a b x y = one_where (counts 1 p.k 0) p (length p.flights) a b x y
+one_due None p a b x y = grind (arith, one_where)
 one_due (Some held) p a b (d, is, x) (e, is', y) =
-    let same : d ≡ e = one_first_difference held p d e is is' in
-    one_where (counts e p.k (length held.flights)) p (length p.flights) a b
-    (subst (λ (f : ℕ). HasCandidatesWhere (counts f p.k (length held.flights)) p (length p.flights) a) same x) y
+    let same : d ≡ e = one_first_difference held p d e is is' in grind (arith, one_where)
