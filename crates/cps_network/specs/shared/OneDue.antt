@@ -15,9 +15,6 @@ use Rattle.cps_network.specs.Lists.{IsAscending}
 
 pub never_both : (x y : List ℤ) → window_cmp x y ≡ Less → window_cmp y x ≡ Less → ⊥
 never_both x y a b = grind (arith, window_cmp_total.antisymm)
-  where
-    less_greater : ◌≡◌ {A = Ordering} Less Greater → ⊥
-    less_greater e = cc
 
 -- without its first an ascending list ascends
 pub tail_ascends : (x : List ℤ) (xs : List (List ℤ)) → IsAscending (x ∷ xs) → IsAscending xs

@@ -86,8 +86,7 @@ module _ (p : Problem) (net : IsWindowNetwork p) (before : ℕ × List (List ℤ
                 rank = z.1;
                 permitted = may;
                 next = next;
-                lands = ap (λ (y : Pair). successor p (latest (before.0, node_at before.1 has.0)) y z.1) i.2
-                    ∙ c.1 ∙ ap Some e;
+                lands = cc;
               },
             )
             )
