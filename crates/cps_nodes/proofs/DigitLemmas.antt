@@ -1,8 +1,7 @@
 -- Offsets as digits of numbers: the tail and the head of a window, its order, and one landing more.
-use Rattle.std.proofs.Common.{rules}
-use Rattle.std.proofs.Common.{◌≡◌, ℕ, zero, suc, ◌+◌, ◌-◌, ◌*◌, ◌/◌, ◌%◌, ◌^◌, ◌<◌, ◌≤◌, List, [], ◌∷◌, ◌++◌, drop}
-use Rattle.std.proofs.Common.{take, replicate, refl, ap, ap₂, sym, subst, ◌∙◌, arith, mul-le-mul_right, suc-mul}
-use Rattle.std.proofs.Common.{shr-shr, mod-lt, pow_pos, mod-eq_of_lt, pow-add}
+use Rattle.std.proofs.Common.{rules, ◌≡◌, ℕ, zero, suc, ◌+◌, ◌-◌, ◌*◌, ◌/◌, ◌%◌, ◌^◌, ◌<◌, List, ◌∷◌, ◌++◌, drop, take}
+use Rattle.std.proofs.Common.{replicate, refl, ap, ap₂, sym, subst, ◌∙◌, arith, shr-shr, mod-lt, pow_pos, mod-eq_of_lt}
+use Rattle.std.proofs.Common.{[], pow-add}
 use Rattle.std.specs.Prelude.{ℤ, pos, negsuc, nat_abs, ◌-ℤ◌, ◌<ℤ◌, ◌≤ℤ◌, ◌==◌}
 use Rattle.std.proofs.lemmas.Int.{ints}
 use Rattle.std.proofs.lemmas.Nat.{field_of, shr_below}
@@ -181,14 +180,6 @@ pointwise-offsets_of width m n l r =
     lists_ties int_cmp (λ a b. refl) (offsets_of width m) (offsets_of width n)
     ∙ ap is_eq (slice_cmp-offsets_of width m n ∙ ap₂ nat_cmp (mod-eq_of_lt l) (mod-eq_of_lt r))
     ∙ unsigned_tied m n
-
-int_cmp_digits : (a b : ℕ) → int_cmp (pos a -ℤ pos 8) (pos b -ℤ pos 8) ≡ nat_cmp a b
-int_cmp_digits a b = grind arith
-
-then_Equal : (o : Ordering) → ordering_then o Equal ≡ o
-then_Equal Less = refl
-then_Equal Equal = refl
-then_Equal Greater = refl
 
 -- the tails decide before the first digits
 keys_compare : (a b c d : ℕ) → c < 16 → d < 16

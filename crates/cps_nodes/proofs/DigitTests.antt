@@ -1,13 +1,8 @@
 -- What the comparisons of numbers say of the windows whose digits they are.
-use Rattle.std.proofs.Common.{arith}
-use Rattle.std.proofs.Common.{rules}
-use Rattle.std.proofs.Common.{◌≡◌, ℕ, ◌-◌, ◌*◌, ◌/◌, ◌%◌, ◌^◌, ◌<◌, drop, take, length, ap, ap₂, sym, subst, ◌∙◌}
-use Rattle.std.proofs.Common.{mod-lt, pow_pos, mod-eq_of_lt, IsTrue, nat_eq, nat_lt, ◌↔◌}
-use Rattle.std.proofs.lemmas.Bool.{ltb-true, lt-ltb, eqb-true, eq-eqb}
-use Rattle.std.proofs.lemmas.Cmp.{ranked}
-use Rattle.std.specs.declared.cmp.Ordering.TheVariants.{Less}
+use Rattle.std.proofs.Common.{arith, rules, ◌≡◌, ℕ, ◌-◌, ◌*◌, ◌/◌, ◌%◌, ◌^◌, ◌<◌, drop, take, length, mod-lt, pow_pos}
+use Rattle.std.proofs.Common.{mod-eq_of_lt, IsTrue, nat_eq, nat_lt, ◌↔◌}
+use Rattle.std.proofs.lemmas.Bool.{eqb-true, eq-eqb}
 use Rattle.std.specs.Ordering.{int_cmp, nat_cmp}
-use Rattle.std.specs.Cmp.{nat_cmp_is}
 use Rattle.std.specs.Cmp.Lexicographic.{slice_cmp}
 use Rattle.cps_nodes.specs.Leads.{TailMeetsHead, IsBelow}
 use Rattle.cps_nodes.specs.Digits.{offsets_of, length-offsets_of}

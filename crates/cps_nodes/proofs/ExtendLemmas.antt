@@ -1,8 +1,7 @@
 -- A list of landings goes on exactly where its window accepts the next one.
-use Rattle.std.proofs.Common.{rules}
-use Rattle.std.proofs.Common.{◌≡◌, ℕ, ◌+◌, ◌-◌, ◌/◌, ◌*◌, ◌<◌, ◌≤◌, List, [], ◌∷◌, ◌++◌, length, drop, get_or, refl}
-use Rattle.std.proofs.Common.{arith, length-append, replicate, append_assoc, ◌∙◌, sym, ap, ap₂, inl, inr, subst, zero}
-use Rattle.std.proofs.Common.{suc}
+use Rattle.std.proofs.Common.{rules, ◌≡◌, ℕ, ◌+◌, ◌-◌, ◌/◌, ◌*◌, ◌<◌, ◌≤◌, List, ◌∷◌, ◌++◌, length, drop, get_or, refl}
+use Rattle.std.proofs.Common.{arith, length-append, replicate, append_assoc, ◌∙◌, sym, ap, inl, inr, subst, zero, suc}
+use Rattle.std.proofs.Common.{[]}
 use Rattle.std.specs.Prelude.{ℤ, pos, ◌+ℤ◌, ◌-ℤ◌, ◌≤ℤ◌, ◌⊎◌, Contains}
 use Rattle.std.proofs.lemmas.Int.{ints}
 use Rattle.std.proofs.lemmas.List.{get_or_default, get_or_append_left, get_or_push, length-replicate, drop-append-le}

@@ -1,12 +1,11 @@
 -- The ranks that a window holds, as bits, and which flight is due after one landing more.
-use Rattle.std.proofs.Common.{rules}
-use Rattle.std.proofs.Common.{◌≡◌, ℕ, ◌+◌, ◌-◌, ◌*◌, ◌/◌, ◌%◌, ◌^◌, ◌<◌, List, length, ◌≤◌, arith, ◌∙◌, sym, ap, inl}
-use Rattle.std.proofs.Common.{inr, refl, subst, zero, suc, shr-shr, mod-lt, pow_pos}
+use Rattle.std.proofs.Common.{rules, ◌≡◌, ℕ, ◌+◌, ◌-◌, ◌*◌, ◌/◌, ◌%◌, ◌^◌, ◌<◌, List, length, ◌≤◌, arith, ◌∙◌, sym, ap}
+use Rattle.std.proofs.Common.{inl, inr, refl, subst, zero, suc, shr-shr, mod-lt, pow_pos}
 use Rattle.std.specs.Prelude.{Bool, IsTrue, ◌↔◌, ◌⊎◌, ℤ, pos, ◌+ℤ◌, ◌-ℤ◌, ◌≤ℤ◌, bit_or, bit_and, min}
 use Rattle.std.specs.Int.{bit_at, bit_not, w32, w64}
 use Rattle.std.proofs.lemmas.Bool.{cases_eq, cases_lt}
 use Rattle.std.proofs.lemmas.Int.{ints}
-use Rattle.std.proofs.lemmas.Nat.Bits.{bit_at_set_same, bit_at_set_other, bit_at-zero, bit_at_above, bit_at_cat_low}
+use Rattle.std.proofs.lemmas.Nat.Bits.{bit_at_set_same, bit_at_set_other, bit_at_above, bit_at_cat_low}
 use Rattle.std.proofs.lemmas.Nat.Bits.{bit_at_cat_high, bit_at_and, bit_at_not, bit_at_ones}
 use Rattle.std.proofs.lemmas.Nat.Bits.{bit_at_ones_above, bit_at-lt}
 use Rattle.std.proofs.lemmas.Nat.{field_of}
@@ -74,9 +73,6 @@ module _ (w stage bits : ℕ) (xs : List ℤ) (is : IsWindow w xs) (are : AreHel
   held_early early rank =
       told _ _ xs _ _ (ap (λ (n : ℕ). n % 2) (shr-shr bits (w + 7 - stage) rank)) (omega (arith, ints, is.is_width))
       (are (w + 7 - stage + rank))
-
-  far_below : (rank : ℕ) → rank < stage - (w + 7) → HoldsRank xs (pos rank -ℤ pos stage +ℤ pos (w - 1)) → ⊥
-  far_below rank below (i, lt, e) = grind arith
 
   far_above : (rank : ℕ) → stage ≤ most_waiting → 64 ≤ rank → HoldsRank xs (pos rank -ℤ pos stage +ℤ pos (w - 1)) → ⊥
   far_above rank few above (i, lt, e) = grind arith

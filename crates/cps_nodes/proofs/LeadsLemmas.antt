@@ -1,10 +1,10 @@
 -- One window leads to another exactly where some accepted landing extends it to that one.
-use Rattle.std.proofs.Common.{◌≡◌, ℕ, ◌+◌, ◌-◌, ◌/◌, ◌<◌, List, [], ◌∷◌, ◌++◌, length, drop, take, get_or, refl, arith}
-use Rattle.std.proofs.Common.{length-append, length-drop, ◌∙◌, sym, ap, subst, zero, suc}
+use Rattle.std.proofs.Common.{[], ◌≡◌, ℕ, ◌+◌, ◌-◌, ◌/◌, ◌<◌, List, ◌∷◌, ◌++◌, length, take, get_or, refl, arith}
+use Rattle.std.proofs.Common.{length-append, ◌∙◌, sym, ap, zero, suc}
 use Rattle.std.specs.Prelude.{ℤ, pos, ◌+ℤ◌, ◌≤ℤ◌}
 use Rattle.std.proofs.lemmas.Int.{ints}
 use Rattle.std.proofs.lemmas.List.{get_or-drop, get_or-take}
-use Rattle.cps_nodes.specs.Windows.{IsWindow, HoldsRank, offset_at, shifted}
+use Rattle.cps_nodes.specs.Windows.{IsWindow, HoldsRank, offset_at}
 use Rattle.cps_nodes.specs.Leads.{Extends, TailMeetsHead}
 
 -- a list is its front and its last offset

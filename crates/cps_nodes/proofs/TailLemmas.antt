@@ -1,16 +1,10 @@
 -- The first offset of a window tells nothing of what may land next.
-use Rattle.std.proofs.Common.{rules}
-use Rattle.std.proofs.Common.{◌≡◌, ℕ, ◌+◌, ◌-◌, ◌/◌, List, [], ◌∷◌, ◌++◌, length, drop, get_or, arith, ◌∙◌, sym, ap}
-use Rattle.std.proofs.Common.{inl, inr, subst, zero, suc}
-use Rattle.std.specs.Prelude.{ℤ, pos, ◌+ℤ◌, ◌-ℤ◌, ◌≤ℤ◌, ◌⊎◌}
+use Rattle.std.proofs.Common.{rules, ◌≡◌, ℕ, ◌/◌, List, ◌∷◌, ◌++◌, length, drop, arith, ◌∙◌, sym, ap, inl, inr, zero}
+use Rattle.std.proofs.Common.{[], suc}
+use Rattle.std.specs.Prelude.{ℤ, pos, ◌+ℤ◌, ◌≤ℤ◌, ◌⊎◌}
 use Rattle.std.proofs.lemmas.Int.{ints}
-use Rattle.std.proofs.lemmas.List.{get_or-drop}
 use Rattle.cps_nodes.specs.Leads.{GoOnAlike}
-use Rattle.cps_nodes.specs.Windows.{IsWindow, HoldsRank, Accepts, offset_at, shifted, IsPlaced}
-
--- past the first place both have one offset
-pub offset_at-same_tail : (xs ys : List ℤ) (i : ℕ) → drop 1 xs ≡ drop 1 ys → offset_at xs (1 + i) ≡ offset_at ys (1 + i)
-offset_at-same_tail xs ys i e = grind arith
+use Rattle.cps_nodes.specs.Windows.{IsWindow, HoldsRank, Accepts, shifted, IsPlaced}
 
 -- a rank that the one holds at a later place, the other holds too
 HoldsRank-same_tail : (w : ℕ) (xs ys : List ℤ) (rank : ℤ) → IsWindow w xs → IsWindow w ys → drop 1 xs ≡ drop 1 ys
