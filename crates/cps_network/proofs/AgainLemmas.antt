@@ -1,15 +1,13 @@
 -- What comes next after a stage comes next after another whose ranks in reach wait alike.
-use Rattle.std.proofs.Common.{rules}
-use Rattle.std.proofs.Common.{◌≡◌, ℕ, ◌+◌, ◌-◌, ◌*◌, ◌%◌, ◌^◌, ◌<◌, ◌≤◌, List, length, arith, ◌∙◌, sym, ap, inl, inr}
+use Rattle.std.proofs.Common.{rules, ◌≡◌, ℕ, ◌+◌, ◌-◌, ◌*◌, ◌%◌, ◌^◌, ◌<◌, ◌≤◌, List, length, arith, ◌∙◌, ap, inl, inr}
 use Rattle.std.proofs.Common.{subst}
-use Rattle.std.specs.Prelude.{ℤ, pos, ◌↔◌, Contains, ◌+ℤ◌, ◌-ℤ◌}
+use Rattle.std.specs.Prelude.{ℤ, pos, ◌↔◌, Contains}
 use Rattle.std.proofs.lemmas.Int.{ints}
 use Rattle.std.proofs.lemmas.Bool.{cases_lt}
 use Rattle.std.proofs.lemmas.Nat.{one_shl}
 use Rattle.std.proofs.lemmas.Nat.Bits.{bit_at_ones, bit_at_ones_above}
-use Rattle.std.specs.Int.{bit_at}
 use Rattle.precedence.specs.Pairs.{HasBit}
-use Rattle.cps_nodes.specs.Windows.{Accepts, IsPlaced, HoldsRank, shifted}
+use Rattle.cps_nodes.specs.Windows.{Accepts, IsPlaced, shifted}
 use Rattle.cps_nodes.specs.Laws.{offset_after}
 use Rattle.landing_rules.specs.Problem.{Problem}
 use Rattle.cps_network.specs.Permits.{IsSuccessor}

@@ -1,8 +1,6 @@
 -- To keep some places of a list in place, step by step.
-use Rattle.std.proofs.Common.{rules}
-use Rattle.std.proofs.Common.{◌≡◌, ℕ, zero, ◌+◌, ◌<◌, ◌≤◌, List, [], ◌∷◌, ◌++◌, length, drop, take, get_or, refl}
-use Rattle.std.proofs.Common.{arith, length-append, length-set, append-nil, add-one, ◌∙◌, sym, ap, ap₂, inl, inr}
-use Rattle.std.proofs.Common.{subst, suc, Vec, Global}
+use Rattle.std.proofs.Common.{[], rules, ◌≡◌, ℕ, zero, ◌+◌, ◌<◌, ◌≤◌, List, ◌∷◌, ◌++◌, length, drop, take, get_or, refl}
+use Rattle.std.proofs.Common.{arith, length-append, append-nil, add-one, ◌∙◌, sym, ap, ap₂, suc, Vec, Global}
 use Rattle.std.specs.Prelude.{Bool, true, false, ◌⊎◌, replicate, Result, Ok, Err, IsOk, OnErr}
 use Rattle.std.specs.List.{AllZip, swap}
 use Rattle.std.proofs.Math.ListN.{set}

@@ -1,9 +1,8 @@
 -- Groups of windows, the offsets that are permitted after them, and where they begin and end.
-use Rattle.std.proofs.Common.{◌≡◌, ℕ, ◌+◌, ◌-◌, ◌*◌, ◌/◌, ◌%◌, ◌^◌, ◌<◌, ◌≤◌, min, max}
-use Rattle.std.proofs.Common.{List, [], ◌∷◌, ◌++◌, length, drop, take}
-use Rattle.std.proofs.Common.{arith, ◌∙◌, sym, ap, inl, inr, subst, w8}
+use Rattle.std.proofs.Common.{◌≡◌, ℕ, ◌+◌, ◌-◌, ◌*◌, ◌/◌, ◌%◌, ◌^◌, ◌<◌, ◌≤◌, min, max, List, ◌∷◌, ◌++◌, length, drop}
+use Rattle.std.proofs.Common.{[], take, arith, ◌∙◌, sym, ap, inl, inr, subst, w8}
 use Rattle.std.proofs.lemmas.Bool.{cases_eq, cases_lt}
-use Rattle.std.proofs.lemmas.Nat.Bits.{bit_at_set_same, bit_at_set_other, bit_at-zero, bit_at_and, bit_at-lt}
+use Rattle.std.proofs.lemmas.Nat.Bits.{bit_at_set_same, bit_at_set_other, bit_at_and}
 use Rattle.std.proofs.lemmas.Int.{ints}
 use Rattle.std.specs.Prelude.{ℤ, pos, ◌-ℤ◌, ◌⊎◌, ◌↔◌, bit_or, bit_and}
 use Rattle.std.specs.Int.{bit_at}
@@ -18,7 +17,6 @@ use Rattle.cps_network.specs.Extended.{HasPermitted, HasOpen, HasFree, IsOpen}
 use Rattle.cps_network.specs.Groups.{IsGroup}
 use Rattle.cps_network.specs.Lists.{IsAscending, node_at}
 use Rattle.cps_network.specs.Permits.{IsPermitted}
-use Rattle.cps_network.proofs.ListLemmas.{last_or_before}
 use Rattle.cps_network.proofs.SourceLemmas.{below_before, none_from, exact}
 use Rattle.std.proofs.lemmas.Grind.{common_steps}
 

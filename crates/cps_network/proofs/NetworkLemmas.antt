@@ -1,5 +1,5 @@
 -- The windows of legal prefixes, whose latest rank comes first, are the nodes of a network.
-use Rattle.std.proofs.Common.{◌≡◌, ℕ, zero, suc, ◌+◌, ◌-◌, ◌*◌, ◌<◌, ◌≤◌, List, [], ◌∷◌, ◌++◌, length, reverse, get_or}
+use Rattle.std.proofs.Common.{[], ◌≡◌, ℕ, zero, suc, ◌+◌, ◌-◌, ◌*◌, ◌<◌, ◌≤◌, List, ◌∷◌, ◌++◌, length, reverse, get_or}
 use Rattle.std.proofs.Common.{refl, arith, rules, length-append, ◌∙◌, sym, ap, inl, inr, subst, Bool}
 use Rattle.std.specs.Prelude.{ℤ, pos, nat_abs, ◌/◌, ◌+ℤ◌, ◌-ℤ◌, ◌↔◌, Contains, IsTrue, All}
 use Rattle.std.proofs.lemmas.Int.{ints}
@@ -8,7 +8,7 @@ use Rattle.std.proofs.Math.Seq.{get_or-append_seam}
 use Rattle.std.proofs.lemmas.List.Elements.{Contains-append_left, Contains-push, Contains-push_cases}
 use Rattle.std.proofs.lemmas.Bool.{cases_lt}
 use Rattle.precedence.specs.Pairs.{must_precede_decides, AreInRange}
-use Rattle.cps_nodes.specs.Windows.{Accepts, HoldsRank, IsPlaced, offset_at, shifted}
+use Rattle.cps_nodes.specs.Windows.{Accepts, HoldsRank, IsPlaced, offset_at}
 use Rattle.cps_nodes.specs.Ranks.{HasLanded, RanksKeepShift, window_of}
 use Rattle.cps_nodes.specs.Laws.{FollowRanks, offset_after}
 use Rattle.cps_theory.specs.RankLists.{In}
@@ -56,23 +56,12 @@ module _ (p : Problem) where
       let len : length (reverse rs) ≡ length rs = length-reverse rs in
       let longer : length (reverse rs ++ r ∷ []) ≡ length (reverse rs) + 1 = length-append (reverse rs) (r ∷ []) in
       record {
-        positive = grind (arith, last_or_before, read_last, read_old, is.positive, next.fits.from_one);
-        early = grind (arith, last_or_before, read_last, read_old, is.early);
-        late = grind (arith, last_or_before, read_last, read_old, is.late);
-        differ = λ i j lt within same.
-            let old : get_or (reverse rs ++ r ∷ []) i 0 ≡ get_or (reverse rs) i 0 =
-            read_old (reverse rs) r i (omega arith) in
-            elim (last_or_before j (length (reverse rs)) (omega arith)) [
-              | inl e ↦ next.fits.is_new (contains_in rs r (
-                i,
-                omega arith,
-                get_or_default (reverse rs) i r 0 (omega arith)
-                    ∙ sym old ∙ same ∙ read_last (reverse rs) r j e,
-              ))
-              | inr before ↦ is.differ i j lt before (sym old ∙ same ∙ read_old (reverse rs) r j before)
-            ];
+        positive = grind (arith, read_last, read_old);
+        early = grind (arith, read_last, read_old);
+        late = grind (arith, read_last, read_old);
+        differ = search (rules, read_old, last_or_before, contains_in, get_or_default, read_last, is.differ);
         due = λ rank positive passed. elim (cases_lt (rank + p.k) (length rs + 1)) [
-          | inl long ↦ Contains-append_left (reverse rs) (r ∷ []) rank (is.due rank positive (omega arith))
+          | inl long ↦ grind (arith, Contains-append_left)
           | inr now ↦ rw (← reverse_more r rs) (in_contains (r ∷ rs) rank (next.due rank positive (omega arith)))
         ];
       }
@@ -80,17 +69,11 @@ module _ (p : Problem) where
   module _ (law : FollowRanks (2 * p.k + 1)) where
     keeps : (rs : List ℕ) → Legal (ranked p).rules rs → RanksKeepShift ((2 * p.k + 1) / 2) (reverse rs)
     keeps [] legal = law.none
-    keeps (r ∷ rs) legal = rw (reverse_more r rs) (keeps_more rs r (keeps rs legal.1) legal.0)
+    keeps (r ∷ rs) legal = grind (arith, reverse_more, keeps_more, (keeps rs legal.1))
 
     -- the window of a legal prefix places its ranks alone
     pub tells_ranks : TellTheirRanks p
-    tells_ranks rs rank legal one = (
-      λ placed. elim (here.0 placed) [
-        | inl below ↦ absurd (omega (arith, ints, below))
-        | inr (r, same, has) ↦ contains_in rs rank (let e : r ≡ rank = omega (arith, ints, same) in rw (← e) has)
-      ],
-      λ i. here.1 (inr (rank, refl, in_contains rs rank i)),
-    )
+    tells_ranks rs rank legal one = grind (arith, here.0, contains_in, here.1, in_contains)
       where
         here : IsPlaced (node_of p.k rs).1 (pos (length rs)) (pos rank) ↔ HasLanded (reverse rs) (pos rank)
         here = subst (λ (n : ℕ). IsPlaced (node_of p.k rs).1 (pos n) (pos rank) ↔ HasLanded (reverse rs) (pos rank))
@@ -101,16 +84,7 @@ module _ (p : Problem) where
       -- a rank that may follow is permitted after the window
       may_permits : MayFollow (ranked p).rules rs r → permits p (node_of p.k rs) r
       may_permits next =
-          let step = ((law.goes_on (reverse rs) r).0 (keeps_more rs r (keeps rs legal) next)).1 in
-          record {
-            from_one = next.fits.from_one;
-            to_count = next.fits.to_count;
-            early = omega (arith, next.fits.not_early);
-            late = omega (arith, next.fits.not_late, low r);
-            accepted = subst (λ (n : ℕ). Accepts (node_of p.k rs).1 (offset_after n r)) (length-reverse rs) step.accepted;
-            after = λ first must. (tells_ranks rs first legal (range first r must).0).1
-                (next.fits.after first ((must_precede_decides p.pairs first r).1 must));
-          }
+          grind (arith, law.goes_on, keeps_more, keeps, p.k, length-reverse, tells_ranks, next.fits.after, p.pairs)
 
       -- and back
       permits_may : permits p (node_of p.k rs) r → MayFollow (ranked p).rules rs r
@@ -122,7 +96,7 @@ module _ (p : Problem) where
             record {
               early = omega (arith, may.early);
               late = omega (arith, may.late);
-              accepted = subst (λ (n : ℕ). Accepts (node_of p.k rs).1 (offset_after n r)) (sym len) may.accepted;
+              accepted = grind arith;
             },
           )) in
           record {
@@ -130,7 +104,7 @@ module _ (p : Problem) where
               from_one = may.from_one;
               to_count = may.to_count;
               is_new = λ i. elim ((tells_ranks rs r legal may.from_one).1 i) [
-                | inl due ↦ omega (arith, ints, due, may.late, law.wide (reverse rs))
+                | inl due ↦ search rules
                 | inr held ↦
                     let e : pos r -ℤ pos (length rs) +ℤ pos (length (node_of p.k rs).1 - 1)
                     ≡ pos (length (node_of p.k rs).1) +ℤ offset_after (length rs) r =
@@ -139,39 +113,32 @@ module _ (p : Problem) where
               ];
               not_early = omega (arith, may.early);
               not_late = omega (arith, may.late);
-              after = λ a b.
-                  let must = (must_precede_decides p.pairs a r).0 b in
-                  (tells_ranks rs a legal (range a r must).0).0 (may.after a must);
+              after = grind (arith, tells_ranks);
             };
             due = λ x one e. contains_in (r ∷ rs) x (more.due x one (omega (arith, length-reverse (r ∷ rs))));
           }
 
 pushed : (p : Problem) (rs : List ℕ) (r : ℕ) → FollowRanks (2 * p.k + 1)
     → node_of p.k (r ∷ rs) ≡ land (node_of p.k rs) r
-pushed p rs r law = search (rules, reverse_more, law.shifts, length-reverse)
+pushed p rs r law = grind (arith, reverse_more, length-reverse)
 
 latest_rank : (p : Problem) (rs : List ℕ) → FollowRanks (2 * p.k + 1) → latest (node_of p.k rs) ≡ last_rank rs
-latest_rank p [] law =
-    let z : offset_at (window_of (2 * p.k + 1) []) (length (window_of (2 * p.k + 1) []) - 1) ≡ pos 0 =
-    zero_at (2 * p.k + 1) (length (window_of (2 * p.k + 1) []) - 1) in
-    ap (λ (o : ℤ). nat_abs (pos 0 +ℤ o)) z
+latest_rank p [] law = grind (arith, zero_at)
 latest_rank p (r ∷ rs) law =
     let wide : length (window_of (2 * p.k + 1) (reverse (r ∷ rs))) ≡ 2 * p.k + 1 = law.wide (reverse (r ∷ rs)) in
     let last : pos (length (reverse rs) + 1) +ℤ offset_at (window_of (2 * p.k + 1) (reverse rs ++ r ∷ []))
     (2 * p.k + 1 - 1) ≡ pos r = law.last (reverse rs) r in
     let here : offset_at (window_of (2 * p.k + 1) (reverse (r ∷ rs)))
     (length (window_of (2 * p.k + 1) (reverse (r ∷ rs))) - 1)
-    ≡ offset_at (window_of (2 * p.k + 1) (reverse rs ++ r ∷ [])) (2 * p.k + 1 - 1) =
-    ap (λ (n : ℕ). offset_at (window_of (2 * p.k + 1) (reverse (r ∷ rs))) (n - 1)) wide
-    ∙ ap (λ (l : List ℕ). offset_at (window_of (2 * p.k + 1) l) (2 * p.k + 1 - 1)) (reverse_more r rs) in
-    omega (arith, ints, here, last, length-reverse rs)
+    ≡ offset_at (window_of (2 * p.k + 1) (reverse rs ++ r ∷ [])) (2 * p.k + 1 - 1) = grind (arith, reverse_more) in
+    grind (arith, length-reverse)
 
 pub window_network : (p : Problem) → AreInRange p.pairs → ((q : ℕ) → passed_at p q ≤ p.k) → FollowRanks (2 * p.k + 1)
     → IsWindowNetwork p
 window_network p range low law = record {
   empty = tt;
-  grows = λ r rs legal may. (permits_may p law range low rs r legal may, legal);
-  shrinks = λ r rs legal. (legal.1, may_permits p law range low rs r legal.1 legal.0);
+  grows = search (rules, permits_may);
+  shrinks = λ r rs legal. grind (arith, may_permits);
   pushes = λ r rs legal. pushed p rs r law;
   newest_is = λ rs legal. latest_rank p rs law;
 }
@@ -179,14 +146,10 @@ window_network p range low law = record {
 -- at most k flights passed that of each rank, and none one that is of no flight
 pub passed_low : (p : Problem) → All (λ f. f.passed ≤ p.k) p.flights → (q : ℕ) → passed_at p q ≤ p.k
 passed_low p all zero = omega arith
-passed_low p all (suc i) = elim (cases_lt i (length p.flights)) [
-  | inl lt ↦ all i no_waiting lt
-  | inr le ↦ let none : get_or p.flights i no_waiting ≡ no_waiting =
-      get_or_past p.flights i no_waiting le in omega (arith, ap (λ f. f.passed) none)
-]
+passed_low p all (suc i) = grind (arith, get_or_past)
 
 pub steps_are_whole : (p : Problem) → StepsAreWhole p
-steps_are_whole p ranks = legal_is_prefix (ranked p).rules (λ r. omega arith) ranks
+steps_are_whole p ranks = grind (arith, legal_is_prefix)
 
 -- where a test says whether a rank is permitted after the window of a legal prefix, it says whether the prefix with it
 -- is legal
@@ -196,10 +159,7 @@ pub whole_permitted : (p : Problem) (b : Bool) (stage : ℕ) (xs : List ℤ) (ra
     → xs ≡ window_of w (reverse ranks)
     → stage ≡ length ranks → IsTrue b ↔ IsLegalPrefix (ranked p).rules (rank ∷ ranks)
 whole_permitted p b stage xs rank w odd net test ranks legal at e =
-    let here : IsTrue b ↔ permits p (node_of p.k ranks) rank =
-    subst (λ (n : ℕ). IsTrue b ↔ IsPermitted p n (window_of (2 * p.k + 1) (reverse ranks)) rank) e
-    (subst (λ (zs : List ℤ). IsTrue b ↔ IsPermitted p stage zs rank)
-    (at ∙ ap (λ (n : ℕ). window_of n (reverse ranks)) odd) test) in (
+    let here : IsTrue b ↔ permits p (node_of p.k ranks) rank = grind arith in (
       λ t. (steps_are_whole p (rank ∷ ranks)).0 (net.grows rank ranks ((steps_are_whole p ranks).1 legal) (here.0 t)),
       λ is. here.1 (net.shrinks rank ranks ((steps_are_whole p (rank ∷ ranks)).1 is)).1,
     )

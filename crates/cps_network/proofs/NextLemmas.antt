@@ -1,24 +1,17 @@
 -- What is gathered from the groups of a stage are the windows of the next.
-use Rattle.std.proofs.Common.{◌≡◌, ℕ, ◌+◌, ◌-◌, ◌*◌, ◌<◌, ◌≤◌, List, [], length, arith, ◌∙◌, sym, ap, subst}
-use Rattle.std.proofs.Common.{inl, inr}
-use Rattle.std.proofs.lemmas.Int.{ints}
+use Rattle.std.proofs.Common.{[], ◌≡◌, ℕ, ◌+◌, ◌-◌, ◌*◌, ◌<◌, ◌≤◌, List, length, arith, ◌∙◌, sym, subst, inl, inr}
 use Rattle.std.proofs.lemmas.List.{get_or_default}
 use Rattle.std.proofs.lemmas.List.Elements.{Contains-get_or}
 use Rattle.std.specs.Prelude.{ℤ, All, Contains}
-use Rattle.cps_nodes.specs.Laws.{LeadOn, offset_after}
-use Rattle.cps_nodes.specs.Windows.{IsWindow, Accepts, shifted}
+use Rattle.cps_nodes.specs.Laws.{LeadOn}
+use Rattle.cps_nodes.specs.Windows.{IsWindow}
 use Rattle.landing_rules.specs.Problem.{Problem}
 use Rattle.cps_network.specs.declared.groups.Group.{Group}
 use Rattle.cps_network.specs.Extended.{AreGroupsOf, IsGroupOf, IsExtendable, FollowsBy, Follows, HasGrownBy}
-use Rattle.cps_network.specs.Extended.{group_at, offset_of}
+use Rattle.cps_network.specs.Extended.{group_at}
 use Rattle.cps_network.specs.Lists.{node_at, AreWindows}
-use Rattle.cps_network.specs.Permits.{IsPermitted, IsSuccessor, IsNextOf}
+use Rattle.cps_network.specs.Permits.{IsSuccessor, IsNextOf}
 use Rattle.cps_network.proofs.StageLemmas.{IsSuccessor-alike}
-
--- the offset of a rank as the bit has it
-bit_offset : (p : Problem) (stage width j : ℕ) → width ≡ 2 * p.k + 1 → 1 ≤ stage + 1 + j - p.k
-    → offset_after stage (stage + 1 + j - p.k) ≡ offset_of width j
-bit_offset p stage width j odd some = omega (arith, ints)
 
 module _ (p : Problem) (stage width : ℕ) (before : List (List ℤ)) (odd : width ≡ 2 * p.k + 1) where
   -- each group's front window accepts the offsets that it has

@@ -1,13 +1,8 @@
 -- Sets of placed ranks, as bits.
-use Rattle.std.proofs.Common.{◌≡◌, ℕ, zero, suc, ◌+◌, ◌-◌, ◌*◌, ◌/◌, ◌%◌, ◌^◌, ◌<◌, ◌≤◌, max, length, List, arith, ◌∙◌}
-use Rattle.std.proofs.Common.{sym, ap, inl, inr, subst}
-use Rattle.std.proofs.lemmas.Bool.{cases_lt}
-use Rattle.std.specs.Prelude.{ℤ, pos, ◌+ℤ◌, ◌-ℤ◌, ◌↔◌, ◌⊎◌, bit_or}
-use Rattle.std.specs.Int.{bit_at}
-use Rattle.std.proofs.lemmas.Bool.Decides.{nat_tests}
-use Rattle.std.proofs.lemmas.Int.{ints}
+use Rattle.std.proofs.Common.{◌≡◌, ℕ, zero, suc, ◌+◌, ◌-◌, ◌*◌, ◌/◌, ◌%◌, ◌^◌, ◌≤◌, List, arith}
+use Rattle.std.specs.Prelude.{ℤ, pos, ◌+ℤ◌, ◌-ℤ◌, ◌↔◌, bit_or}
 use Rattle.std.proofs.lemmas.Nat.{one_shl}
-use Rattle.std.proofs.lemmas.Nat.Bits.{bit_at_or, bit_at-lt, bit_at_ones, bit_at_ones_above, bit_at_lowest, bit_at-suc}
+use Rattle.std.proofs.lemmas.Nat.Bits.{bit_at_or, bit_at_ones, bit_at_ones_above, bit_at-suc}
 use Rattle.cps_base.specs.Limits.{most_waiting}
 use Rattle.precedence.specs.Pairs.{HasBit}
 use Rattle.cps_nodes.specs.Windows.{IsWindow, IsPlaced, HoldsRank}
@@ -25,9 +20,6 @@ pub placed_of : (w : ℕ) (xs : List ℤ) (stage due held rank : ℕ) → IsWind
     → HasBit held rank ↔ HoldsRank xs (pos rank -ℤ pos stage +ℤ pos (w - 1)) → HasBit (bit_or due held) rank
     ↔ IsPlaced xs (pos stage) (pos rank)
 placed_of w xs stage due held rank is early late = grind (arith, bit_at_or)
-  where
-    one_of : (a b : ℕ) → a < 2 → b < 2 → max a b ≡ 1 → (a ≡ 1) ⊎ (b ≡ 1)
-    one_of a b l r e = grind (arith, nat_tests)
 
 -- the same bits without bit 0
 pub halved_twice : (n rank : ℕ) → HasBit (n / 2 * 2) rank ↔ ((1 ≤ rank) × HasBit n rank)

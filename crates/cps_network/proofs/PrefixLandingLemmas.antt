@@ -1,9 +1,7 @@
 -- Landings that keep the separation after the one before keep it after every earlier one, and back.
-use Rattle.std.proofs.Common.{ℕ, zero, suc, ◌+◌, ◌≤◌, List, [], ◌∷◌, get_or, AllPairs, arith, zero-le}
-use Rattle.std.specs.Prelude.{All, MatchOption, Option, Some, None, ⊤}
+use Rattle.std.proofs.Common.{[], zero, suc, ◌+◌, ◌≤◌, List, ◌∷◌, get_or, AllPairs, arith}
+use Rattle.std.specs.Prelude.{All}
 use Rattle.std.proofs.lemmas.List.Elements.{All-nil, All-cons, All-head, All-tail}
-use Rattle.std.proofs.lemmas.List.Kept.{AllPairs-cons}
-use Rattle.wake_table.specs.declared.category.Category.{Category}
 use Rattle.wake_table.specs.Table.{separation, IsWakeTable}
 use Rattle.landing_rules.specs.Problem.{Problem}
 use Rattle.cps_theory.specs.Feasible.{next_from}
@@ -11,7 +9,7 @@ use Rattle.cps_theory.specs.LandingTrail.{latest_landing, ranks}
 use Rattle.cps_theory.specs.LegalPrefix.{Legal}
 use Rattle.cps_theory.specs.ProblemNetwork.{LandedIn}
 use Rattle.cps_theory.specs.Separation.{Landing}
-use Rattle.landing_joint.specs.RankedProblem.{after_last, ranked, start_at}
+use Rattle.landing_joint.specs.RankedProblem.{ranked, start_at}
 use Rattle.cps_network.specs.PrefixLandings.{category_of, IsOpenLanding, IsAfterFrozen, IsSeparatedFrom, LandsWith}
 use Rattle.cps_network.specs.PrefixLandings.{NeighboursSuffice, AttainsByPrefixes}
 

@@ -1,12 +1,10 @@
 -- The windows that lead to one window stand side by side.
-use Rattle.std.proofs.Common.{rules}
-use Rattle.std.proofs.Common.{◌≡◌, ℕ, Bool, true, false, [], ◌-◌, ◌<◌, ◌≤◌, List, length, drop, take, refl, arith, ◌∙◌}
-use Rattle.std.proofs.Common.{sym, ap, inl, inr, subst}
-use Rattle.std.proofs.lemmas.Bool.{cases_lt}
+use Rattle.std.proofs.Common.{rules, ◌≡◌, ℕ, Bool, true, ◌-◌, ◌<◌, ◌≤◌, List, length, drop, take, refl, arith, ◌∙◌, sym}
+use Rattle.std.proofs.Common.{ap, inl, inr, subst}
 use Rattle.std.proofs.lemmas.List.{get_or_default}
-use Rattle.std.specs.Prelude.{ℤ, ◌⊎◌, ◌↔◌, IsTrue, slice_index_or}
+use Rattle.std.specs.Prelude.{ℤ, ◌⊎◌, ◌↔◌, IsTrue}
 use Rattle.std.proofs.lemmas.Bool.Decides.{nat_tests}
-use Rattle.std.proofs.lemmas.Cmp.{lists_total, int_cmp_total, tied_itself}
+use Rattle.std.proofs.lemmas.Cmp.{lists_total, int_cmp_total}
 use Rattle.std.specs.declared.cmp.Ordering.{Ordering}
 use Rattle.std.specs.declared.cmp.Ordering.TheVariants.{Less, Equal, Greater}
 use Rattle.std.specs.Ordering.{int_cmp, int_eq, is_eq, is_lt, ordering_then}

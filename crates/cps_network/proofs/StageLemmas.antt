@@ -1,4 +1,5 @@
 -- That windows which go on alike have the same successors.
+use Rattle.std.proofs.Common.{rules}
 use Rattle.std.proofs.Common.{◌≡◌, ℕ, ◌+◌, ◌*◌, ◌/◌, List, length, arith, ◌∙◌, sym, subst}
 use Rattle.std.specs.Prelude.{ℤ, pos}
 use Rattle.std.proofs.lemmas.Int.{ints}
@@ -27,11 +28,8 @@ IsSuccessor-alike p stage xs ys next len alike (rank, is, at) = (
 -- windows that lead to one window have the same offsets from the second on
 pub lead_alike : (p : Problem) (w : ℕ) → w ≡ 2 * p.k + 1 → LeadOn w → LeadAlike p w
 lead_alike p w odd law stage xs ys next a b meets (rank, is, at) =
-    let within : IsWithin (pos (w / 2)) (offset_after stage rank) =
-    record { low = omega (arith, ints, is.late, odd); high = omega (arith, ints, is.early, odd) } in
-    let valid : IsWindow w next =
-    subst (λ (z : List ℤ). IsWindow w z) (sym at) (law.stays xs (offset_after stage rank) a within is.accepted) in
-    let own : IsWithin (pos (length xs / 2)) (offset_after stage rank) =
-    subst (λ (n : ℕ). IsWithin (pos (n / 2)) (offset_after stage rank)) (sym a.len) within in
+    let within : IsWithin (pos (w / 2)) (offset_after stage rank) = search rules in
+    let valid : IsWindow w next = grind arith in
+    let own : IsWithin (pos (length xs / 2)) (offset_after stage rank) = grind arith in
     let head : TailMeetsHead xs next = (law.meets xs next a valid).0 (offset_after stage rank, own, is.accepted, at) in
     IsSuccessor-alike p stage xs ys next (a.len ∙ odd) (law.alike xs ys a b (head ∙ sym meets)) (rank, is, at)

@@ -1,12 +1,10 @@
 -- What is due stage by stage, from which stage on, and that it is at most the widest stage for each flight.
-use Rattle.std.proofs.Common.{◌≡◌, ℕ, zero, suc, ◌+◌, ◌-◌, ◌*◌, ◌^◌, ◌<◌, ◌≤◌, ◌||◌, leb, ltb, List, [], length, Bool}
-use Rattle.std.proofs.Common.{true, false, Some, None, inl, inr, refl, sym, subst, ◌∙◌, arith, suc-mul}
+use Rattle.std.proofs.Common.{◌≡◌, ℕ, zero, suc, ◌+◌, ◌*◌, ◌^◌, ◌<◌, ◌≤◌, List, length, Bool, true, false, Some, None}
+use Rattle.std.proofs.Common.{[], refl, sym, subst, arith}
 use Rattle.std.specs.Prelude.{ℤ}
-use Rattle.std.proofs.lemmas.Bool.{cases_lt, leb-true, le-leb, lt-leb, ltb-true, or_left}
 use Rattle.std.proofs.lemmas.List.Elements.{Contains-get_or}
 use Rattle.landing_rules.specs.Problem.{Problem}
 use Rattle.cps_nodes.specs.Windows.{IsWindow}
-use Rattle.cps_theory.specs.Agreement.{counts}
 use Rattle.cps_problem.specs.FirstDifference.{IsFirstDifference}
 use Rattle.cps_network.specs.Due.{HasCandidates, HasCandidatesIf, HasCandidatesWhere, HasCandidatesUpto}
 use Rattle.cps_network.specs.Due.{HasCandidatesFrom, IsDue, IsDueFrom, DueIsBounded}

@@ -1,15 +1,12 @@
 -- A stage has few windows: at most w ^ w different ones of w offsets each.
-use Rattle.std.proofs.Common.{◌≡◌, ℕ, suc, ◌/◌, ◌%◌, ◌^◌, ◌<◌, ◌≤◌, inl, inr, List, [], ◌∷◌, length, map, refl, sym}
-use Rattle.std.proofs.Common.{ap, ap₂, subst, ◌∙◌, arith}
+use Rattle.std.proofs.Common.{[], ◌≡◌, ℕ, suc, ◌/◌, ◌%◌, ◌^◌, ◌<◌, ◌≤◌, inl, inr, List, ◌∷◌, length, map, refl, sym, ap}
+use Rattle.std.proofs.Common.{arith}
 use Rattle.std.specs.Prelude.{ℤ, pos, ◌+ℤ◌, ◌-ℤ◌, ◌≤ℤ◌}
 use Rattle.std.specs.List.{AllByRecursion}
-use Rattle.std.proofs.lemmas.Int.{ints}
 use Rattle.std.proofs.lemmas.Bool.{cases_eq}
-use Rattle.std.specs.declared.cmp.Ordering.{Ordering}
-use Rattle.std.specs.declared.cmp.Ordering.TheVariants.{Less, Greater}
-use Rattle.std.specs.Ordering.{ordering_reverse}
+use Rattle.std.specs.declared.cmp.Ordering.TheVariants.{Less}
 use Rattle.cps_nodes.specs.Windows.{IsWidth, IsWindow, offset_at}
-use Rattle.cps_nodes.specs.WindowOrder.{window_cmp, window_cmp_total}
+use Rattle.cps_nodes.specs.WindowOrder.{window_cmp}
 use Rattle.cps_theory.specs.WindowLists.{DistinctLists, InLists, Sized, raised}
 use Rattle.cps_theory.specs.laws.NumberOfWindows.{few_lists}
 use Rattle.cps_network.specs.Lists.{IsAscending, AreWindows, node_at}

@@ -1,14 +1,12 @@
 -- A stage that two problems have in common has the same pairs of second and cost in both.
-use Rattle.std.proofs.Common.{rules}
-use Rattle.std.proofs.Common.{ℕ, List}
+use Rattle.std.proofs.Common.{rules, ℕ, List}
 use Rattle.std.specs.Prelude.{ℤ}
 use Rattle.cps_theory.specs.Labels.{Pair}
 use Rattle.cps_theory.specs.Network.{Undominated}
 use Rattle.landing_rules.specs.Problem.{Problem}
 use Rattle.cps_network.specs.KeptStages.{LandAlike, HaveStageInCommon}
 use Rattle.cps_network.specs.Landable.{Attains}
-use Rattle.cps_network.specs.Lists.{node_at}
-use Rattle.cps_network.specs.Pairs.{ArePairsOf, HoldsCosts, list_at}
+use Rattle.cps_network.specs.Pairs.{ArePairsOf, HoldsCosts}
 use Rattle.cps_network.specs.shared.KeptStages.{attains_there}
 
 undominated_there : (p q : Problem) (stage : ℕ) → LandAlike p q stage → LandAlike q p stage

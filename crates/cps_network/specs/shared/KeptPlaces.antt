@@ -1,6 +1,6 @@
 -- What is left of a stage and its labels where a test says at which places they are kept.
-use Rattle.std.proofs.Common.{◌≡◌, ℕ, zero, suc, ◌<◌, List, [], ◌∷◌, length, get_or, map, Bool, true, false, refl, sym}
-use Rattle.std.proofs.Common.{ap, ap₂, subst, ◌∙◌, arith}
+use Rattle.std.proofs.Common.{◌≡◌, ℕ, zero, suc, ◌<◌, List, ◌∷◌, length, get_or, map, Bool, true, false, refl, sym, ap}
+use Rattle.std.proofs.Common.{[], subst, ◌∙◌, arith}
 use Rattle.std.specs.Prelude.{ℤ, Contains, All, ◌↔◌}
 use Rattle.std.specs.List.{AllZip}
 use Rattle.std.proofs.lemmas.List.{get_or_default, get_or-map}

@@ -1,6 +1,5 @@
 -- The stages below the first difference of two problems, less the greatest shift, are the same in both.
-use Rattle.std.proofs.Common.{rules}
-use Rattle.std.proofs.Common.{◌≡◌, ℕ, ◌+◌, ◌<◌, List, length, sym, ap, ◌∙◌, arith}
+use Rattle.std.proofs.Common.{rules, ◌≡◌, ℕ, ◌+◌, ◌<◌, List, length, ap, arith}
 use Rattle.std.specs.Prelude.{ℤ, true}
 use Rattle.cps_theory.specs.Labels.{Pair}
 use Rattle.cps_theory.specs.LandingTrail.{ranks}
@@ -14,7 +13,7 @@ use Rattle.cps_problem.specs.shared.OneDifference.{agree_back}
 use Rattle.cps_problem.specs.shared.EarlyLandings.{agree_below, same_landings}
 use Rattle.cps_network.specs.KeptStages.{LandAlike, EarlyStagesAreKept, UncountedStagesAreKept}
 use Rattle.cps_network.specs.Landable.{Attains, IsLandable}
-use Rattle.cps_network.specs.Nodes.{Node, node_of}
+use Rattle.cps_network.specs.Nodes.{Node}
 
 land_alike : (p q : Problem) (d : ℕ) → IsWithinBoth p q d → AgreeUpTo p q d → AreBetweenRanks (length q.flights) q.pairs
     → (stage : ℕ) → stage + p.k < d → LandAlike p q stage

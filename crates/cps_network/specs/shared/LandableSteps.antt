@@ -1,5 +1,5 @@
 -- One landing back: a landable window of the next stage extends one of this.
-use Rattle.std.proofs.Common.{◌≡◌, ℕ, suc, ◌+◌, ◌*◌, List, [], ◌∷◌, length, reverse, refl, sym, ap, subst, ◌∙◌, arith}
+use Rattle.std.proofs.Common.{[], ◌≡◌, ℕ, suc, ◌+◌, ◌*◌, List, ◌∷◌, length, reverse, ap, subst, arith}
 use Rattle.std.specs.Prelude.{ℤ}
 use Rattle.cps_nodes.specs.Ranks.{window_of}
 use Rattle.cps_theory.specs.Separation.{Landing}
@@ -9,7 +9,7 @@ use Rattle.cps_theory.specs.ProblemNetwork.{LandedIn}
 use Rattle.landing_joint.specs.RankedProblem.{ranked, cost_at}
 use Rattle.landing_rules.specs.Problem.{Problem}
 use Rattle.cps_network.specs.Landable.{IsLandable, HoldsLandable, HasEachLandable}
-use Rattle.cps_network.specs.Nodes.{Node, node_of, permits, land, IsWindowNetwork}
+use Rattle.cps_network.specs.Nodes.{Node, node_of, IsWindowNetwork}
 use Rattle.cps_network.specs.Permits.{IsSuccessor, IsNextOf}
 
 module _ (p : Problem) (net : IsWindowNetwork p) where

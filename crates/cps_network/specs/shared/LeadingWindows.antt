@@ -1,14 +1,12 @@
 -- The windows that lead to a window of the next stage: they stand side by side, and land one rank behind one other.
-use Rattle.std.proofs.Common.{rules}
-use Rattle.std.proofs.Common.{◌≡◌, ℕ, suc, ◌+◌, ◌-◌, ◌*◌, ◌<◌, ◌≤◌, List, [], ◌∷◌, length, drop, refl, sym, ap, subst}
-use Rattle.std.proofs.Common.{◌∙◌, arith, inl, inr}
+use Rattle.std.proofs.Common.{rules, ◌≡◌, ℕ, suc, ◌+◌, ◌-◌, ◌*◌, ◌<◌, ◌≤◌, List, length, drop, sym, subst, ◌∙◌, arith}
+use Rattle.std.proofs.Common.{[]}
 use Rattle.std.specs.Prelude.{ℤ, pos, ◌+ℤ◌, ◌≤ℤ◌, ◌↔◌, Contains}
 use Rattle.std.proofs.lemmas.Int.{ints}
 use Rattle.std.proofs.lemmas.List.{get_or_default}
 use Rattle.std.proofs.lemmas.List.Elements.{Contains-get_or}
-use Rattle.std.proofs.lemmas.Bool.{cases_eq}
 use Rattle.cps_base.specs.Limits.{most_waiting}
-use Rattle.cps_nodes.specs.Windows.{IsWindow, offset_at, shifted}
+use Rattle.cps_nodes.specs.Windows.{IsWindow, offset_at}
 use Rattle.cps_nodes.specs.Leads.{Extends, TailMeetsHead}
 use Rattle.cps_nodes.specs.Laws.{FollowRanks, LeadOn, offset_after}
 use Rattle.landing_rules.specs.Problem.{Problem}

@@ -1,7 +1,6 @@
 -- What the windows of legal prefixes are: windows of the width, whose last offset tells the rank that landed last.
-use Rattle.std.proofs.Common.{rules}
-use Rattle.std.proofs.Common.{◌≡◌, ℕ, suc, ◌+◌, ◌-◌, ◌*◌, ◌≤◌, List, [], ◌∷◌, ◌++◌, length, reverse, replicate, sym}
-use Rattle.std.proofs.Common.{ap, subst, ◌∙◌, arith}
+use Rattle.std.proofs.Common.{[], rules, ◌≡◌, ℕ, suc, ◌+◌, ◌-◌, ◌*◌, ◌≤◌, List, ◌∷◌, ◌++◌, length, reverse, replicate}
+use Rattle.std.proofs.Common.{subst, arith}
 use Rattle.std.specs.Prelude.{ℤ, pos, ◌+ℤ◌}
 use Rattle.std.proofs.lemmas.Int.{ints}
 use Rattle.std.proofs.lemmas.List.{reverse-append, length-reverse, append-nil, get_or-replicate}
@@ -13,7 +12,7 @@ use Rattle.cps_theory.specs.LegalPrefix.{Legal}
 use Rattle.landing_joint.specs.RankedProblem.{ranked}
 use Rattle.landing_rules.specs.Problem.{Problem}
 use Rattle.cps_network.specs.Landable.{IsLandable}
-use Rattle.cps_network.specs.Nodes.{Node, node_of, permits, land, latest}
+use Rattle.cps_network.specs.Nodes.{Node, node_of, permits, latest}
 use Rattle.cps_network.specs.Permits.{IsPermitted}
 use Rattle.cps_network.specs.WindowLaws.{WindowLaws}
 
