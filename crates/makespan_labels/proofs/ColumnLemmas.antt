@@ -1,9 +1,9 @@
 -- Which labels are known, the landable windows that are left where the others go, and the least number of a range.
-use Rattle.std.proofs.Common.{rules, ◌≡◌, ℕ, ◌+◌, ◌<◌, ◌≤◌, ◌⊎◌, List, length, Option, Some, None, Bool, true, false}
-use Rattle.std.proofs.Common.{refl, sym, ap, arith, inl, inr, min, set}
+use Rattle.std.proofs.Common.{rules, ◌≡◌, ℕ, ◌+◌, ◌<◌, ◌≤◌, ◌⊎◌, List, length, Option, Some, None, true, false, sym, ap}
+use Rattle.std.proofs.Common.{arith, inl, inr, min, set}
 use Rattle.std.specs.Prelude.{ℤ, slice_index, All, nat_eq, ◌↔◌}
 use Rattle.std.specs.Option.{option_eq}
-use Rattle.std.proofs.lemmas.Bool.{cases_eq, eqb-true, eq-eqb}
+use Rattle.std.proofs.lemmas.Bool.{cases_eq, eqb-true}
 use Rattle.landing_rules.specs.Problem.{Problem}
 use Rattle.landing_rules.specs.Rules.{last_second}
 use Rattle.cps_network.specs.Landable.{IsLandable, HasEachLandable}
@@ -62,18 +62,6 @@ pub entry_of : (landing : Option ℕ) (label : ℕ) → IsLabelOf landing label 
 entry_of None label of = inr of.is
 entry_of (Some t) label of = inl (omega (arith, of.is, of.in_days))
 
--- ---- which labels are known
-
-pub known_is : (x : ℕ) → is_known x ≡ true → x ≡ no_label → ⊥
-known_is x b e = cc
-
-pub is_known_of : (x : ℕ) → (x ≡ no_label → ⊥) → is_known x ≡ true
-is_known_of x ne = grind arith
-
-entry_known : (x : ℕ) → IsEntry x → is_known x ≡ true → x < no_label
-entry_known x (inl le) b = omega (arith, le)
-entry_known x (inr e) b = absurd (known_is x b e)
-
 pub entry_small : (x : ℕ) → IsEntry x → x < no_label → x ≤ last_second
 entry_small x (inl le) lt = le
 entry_small x (inr e) lt = absurd (omega (arith, e, lt))
@@ -115,6 +103,3 @@ some_from_eq (Some y) x e = ap Some (eqb-true y x (sym e))
 
 pub none_from_eq : (o : Option ℕ) (x : ℕ) → false ≡ option_eq nat_eq o (Some x) → o ≡ Some x → ⊥
 none_from_eq o x e is = grind arith
-  where
-    some_differs : {b : Bool} → b ≡ nat_eq x x → false ≡ b → ⊥
-    some_differs {b} f g = let h = eq-eqb x x refl in cc

@@ -1,16 +1,14 @@
 -- Windows of a stage that share a tail: the same rank landed last in each, and may land at the least of their labels as
 -- the first.
-use Rattle.std.proofs.Common.{◌≡◌, ℕ, suc, ◌-◌, ◌*◌, ◌+◌, ◌<◌, ◌≤◌, List, [], ◌∷◌, length, drop, refl, subst, arith}
+use Rattle.std.proofs.Common.{◌≡◌, ℕ, ◌-◌, ◌*◌, ◌+◌, ◌<◌, ◌≤◌, List, [], length, drop, subst, arith}
 use Rattle.std.specs.Prelude.{ℤ, pos, ◌+ℤ◌, slice_index}
 use Rattle.std.proofs.lemmas.Int.{ints}
 use Rattle.std.proofs.lemmas.List.Elements.{Contains-get_or}
 use Rattle.wake_table.specs.declared.category.Category.{Category}
 use Rattle.landing_rules.specs.Problem.{Problem}
 use Rattle.cps_nodes.specs.Windows.{IsWindow, offset_at}
-use Rattle.cps_theory.specs.LandingTrail.{last_rank}
-use Rattle.cps_theory.specs.LegalPrefix.{Legal}
 use Rattle.cps_theory.specs.RankLists.{of_rank}
-use Rattle.landing_joint.specs.RankedProblem.{no_waiting, ranked}
+use Rattle.landing_joint.specs.RankedProblem.{no_waiting}
 use Rattle.cps_network.specs.Groups.{IsGroup}
 use Rattle.cps_network.specs.Landable.{IsLandable}
 use Rattle.cps_network.specs.Lists.{node_at}
@@ -22,18 +20,10 @@ use Rattle.makespan_labels.specs.Groups.{IsLead}
 use Rattle.makespan_labels.specs.Labels.{no_label, CanLandAt, HoldsLabels}
 use Rattle.makespan_labels.specs.shared.NetworkSteps.{can_land}
 
-offset_tail : (xs : List ℤ) (i : ℕ) → offset_at xs (suc i) ≡ offset_at (drop 1 xs) i
-offset_tail [] i = refl
-offset_tail (x ∷ xs) i = refl
-
 -- windows with the same offsets from the second on end alike
 same_end : (w : ℕ) (x y : List ℤ) → IsWindow w x → IsWindow w y → drop 1 x ≡ drop 1 y
     → offset_at x (w - 1) ≡ offset_at y (w - 1)
 same_end w x y a b e = grind arith
-
-rank_flight : (p : Problem) (rs : List ℕ) → Legal (ranked p).rules rs → 0 < length rs → 1 ≤ last_rank rs
-rank_flight p [] legal some = absurd (omega (arith, some))
-rank_flight p (r ∷ rs) legal some = legal.0.fits.from_one
 
 -- behind a first landing a landable window has a latest rank
 landable_flight : (p : Problem) → IsWindowNetwork p → (stage : ℕ) (x : List ℤ) → IsLandable p stage x

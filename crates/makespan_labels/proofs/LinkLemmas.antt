@@ -53,9 +53,6 @@ module _ (l : Links) (links : AreLinks l) (start n : ℕ) (inside : start + n �
   pub place_is : (i : ℕ) → i < n → slice_index places i ≡ slice_index l.places (start + i)
   place_is i lt = grind (arith, slice_index, get_or-between, l.places)
 
-  pub place_within : (i : ℕ) → i < n → slice_index places i < length l.ranges
-  place_within i lt = grind (arith, links.within, place_is)
-
 -- with these places, the ranges from place `first` on and before `end`
 module _ (p : Problem) (w : ℕ) (before stage : ℕ × List (List ℤ)) (labels : List ℕ) (l : Links) (links : AreLinks l)
     (origin : l.origin ≡ before.1) (target : l.target ≡ stage.1) (start n first end : ℕ)

@@ -1,6 +1,6 @@
 -- Labels for the makespan and pairs say the same: the label of a window is its one undominated pair, whose cost is 0.
-use Rattle.std.proofs.Common.{rules, ◌≡◌, ℕ, zero, suc, ◌<◌, ◌≤◌, List, [], ◌∷◌, length, Some, inl, inr, refl, sym, ap}
-use Rattle.std.proofs.Common.{ap₂, subst, arith}
+use Rattle.std.proofs.Common.{rules, ◌≡◌, ℕ, zero, suc, ◌<◌, ◌≤◌, List, [], ◌∷◌, length, inl, inr, refl, sym, ap, ap₂}
+use Rattle.std.proofs.Common.{subst, arith}
 use Rattle.std.specs.Prelude.{ℤ, slice_index}
 use Rattle.std.proofs.lemmas.Bool.{cases_lt}
 use Rattle.std.proofs.lemmas.List.{length-map}
@@ -11,10 +11,10 @@ use Rattle.cps_theory.specs.Separation.{Landing}
 use Rattle.cps_theory.specs.LandingTrail.{cost_of}
 use Rattle.cps_theory.specs.Labels.{InPairs, NoWorse, Pair}
 use Rattle.cps_theory.specs.Network.{Undominated}
-use Rattle.landing_joint.specs.RankedProblem.{cost_at, landing_after}
+use Rattle.landing_joint.specs.RankedProblem.{cost_at}
 use Rattle.cps_network.specs.Lists.{node_at}
 use Rattle.cps_network.specs.Landable.{Attains}
-use Rattle.cps_network.specs.Pairs.{ArePairsOf, AreCosts, HoldsCosts, GivesPair, list_at, successor}
+use Rattle.cps_network.specs.Pairs.{ArePairsOf, AreCosts, HoldsCosts, GivesPair, list_at}
 use Rattle.makespan_labels.specs.Labels.{no_label, CanLandAt, IsLabel, AreLabels, HoldsLabels, GivesLabel}
 use Rattle.makespan_labels.specs.LabelPairs.{label_pairs, column_pairs}
 use Rattle.makespan_labels.specs.shared.NetworkSteps.{can_land}
@@ -176,10 +176,6 @@ module _ (p : Problem) (makespan : p.objective ≡ Makespan) where
       ((h.labelled.label i lt).least _
       (can_land p stage.0 (node_at stage.1 i)
       ((h.landable (node_at stage.1 i)).0 (Contains-get_or stage.1 i [] lt)))).0
-
-  lands_free : (last second rank label : ℕ) → landing_after p last second rank ≡ Some label
-      → successor p last (second, 0) rank ≡ Some (label, 0)
-  lands_free last second rank label e = cc
 
   -- a window gives a label where its one pair gives the label's pair
   pub gives_pair : (before : ℕ × List (List ℤ)) (labels : List ℕ) (node : List ℤ) (label place : ℕ)
