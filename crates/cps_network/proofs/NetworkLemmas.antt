@@ -1,21 +1,21 @@
 -- The windows of legal prefixes, whose latest rank comes first, are the nodes of a network.
 use Rattle.std.proofs.Common.{[], ◌≡◌, ℕ, zero, suc, ◌+◌, ◌-◌, ◌*◌, ◌<◌, ◌≤◌, List, ◌∷◌, ◌++◌, length, reverse, get_or}
-use Rattle.std.proofs.Common.{refl, arith, rules, length-append, ◌∙◌, sym, ap, inl, inr, subst, Bool}
-use Rattle.std.specs.Prelude.{ℤ, pos, nat_abs, ◌/◌, ◌+ℤ◌, ◌-ℤ◌, ◌↔◌, Contains, IsTrue, All}
+use Rattle.std.proofs.Common.{refl, arith, rules, length-append, sym, inl, inr, subst, Bool}
+use Rattle.std.specs.Prelude.{ℤ, pos, ◌/◌, ◌+ℤ◌, ◌-ℤ◌, ◌↔◌, Contains, IsTrue, All}
 use Rattle.std.proofs.lemmas.Int.{ints}
 use Rattle.std.proofs.lemmas.List.{length-reverse, get_or_default, get_or_past, get_or_append_left}
 use Rattle.std.proofs.Math.Seq.{get_or-append_seam}
 use Rattle.std.proofs.lemmas.List.Elements.{Contains-append_left, Contains-push, Contains-push_cases}
 use Rattle.std.proofs.lemmas.Bool.{cases_lt}
-use Rattle.precedence.specs.Pairs.{must_precede_decides, AreInRange}
-use Rattle.cps_nodes.specs.Windows.{Accepts, HoldsRank, IsPlaced, offset_at}
+use Rattle.precedence.specs.Pairs.{AreInRange}
+use Rattle.cps_nodes.specs.Windows.{HoldsRank, IsPlaced, offset_at}
 use Rattle.cps_nodes.specs.Ranks.{HasLanded, RanksKeepShift, window_of}
 use Rattle.cps_nodes.specs.Laws.{FollowRanks, offset_after}
 use Rattle.cps_theory.specs.RankLists.{In}
 use Rattle.cps_theory.specs.LandingTrail.{last_rank}
 use Rattle.cps_theory.specs.LegalPrefix.{IsLegalPrefix, MayFollow, Legal}
 use Rattle.cps_theory.specs.laws.LegalPrefix.{legal_is_prefix}
-use Rattle.landing_joint.specs.RankedProblem.{ranked, no_waiting}
+use Rattle.landing_joint.specs.RankedProblem.{ranked}
 use Rattle.landing_rules.specs.Problem.{Problem}
 use Rattle.cps_problem.specs.Seen.{passed_at}
 use Rattle.cps_network.specs.Permits.{IsPermitted}
@@ -83,8 +83,7 @@ module _ (p : Problem) where
         (legal : Legal (ranked p).rules rs) where
       -- a rank that may follow is permitted after the window
       may_permits : MayFollow (ranked p).rules rs r → permits p (node_of p.k rs) r
-      may_permits next =
-          grind (arith, law.goes_on, keeps_more, keeps, p.k, length-reverse, tells_ranks, next.fits.after, p.pairs)
+      may_permits next = grind (arith, law.goes_on, keeps_more, keeps, length-reverse, tells_ranks)
 
       -- and back
       permits_may : permits p (node_of p.k rs) r → MayFollow (ranked p).rules rs r

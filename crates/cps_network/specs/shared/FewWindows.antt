@@ -1,9 +1,10 @@
 -- A stage has few windows: at most w ^ w different ones of w offsets each.
-use Rattle.std.proofs.Common.{[], ◌≡◌, ℕ, suc, ◌/◌, ◌%◌, ◌^◌, ◌<◌, ◌≤◌, inl, inr, List, ◌∷◌, length, map, refl, sym, ap}
+use Rattle.std.proofs.Common.{[], ◌≡◌, ℕ, suc, ◌/◌, ◌%◌, ◌^◌, ◌<◌, ◌≤◌, inl, inr, List, ◌∷◌, length, map, refl, sym}
 use Rattle.std.proofs.Common.{arith}
 use Rattle.std.specs.Prelude.{ℤ, pos, ◌+ℤ◌, ◌-ℤ◌, ◌≤ℤ◌}
 use Rattle.std.specs.List.{AllByRecursion}
 use Rattle.std.proofs.lemmas.Bool.{cases_eq}
+use Rattle.std.proofs.lemmas.List.{length-map}
 use Rattle.std.specs.declared.cmp.Ordering.TheVariants.{Less}
 use Rattle.cps_nodes.specs.Windows.{IsWidth, IsWindow, offset_at}
 use Rattle.cps_nodes.specs.WindowOrder.{window_cmp}
@@ -31,10 +32,6 @@ all_back k (x ∷ xs) near = grind (arith, (all_back k xs near.1))
 same_raised : (k : ℕ) (xs ys : List ℤ) → AreNear k xs → AreNear k ys → map (raised k) xs ≡ map (raised k) ys → xs ≡ ys
 same_raised k xs ys a b e = grind (arith, all_back)
 
-length_map : {A B : Type 0} (f : A → B) (xs : List A) → length (map f xs) ≡ length xs
-length_map f [] = refl
-length_map f (x ∷ xs) = ap suc (length_map f xs)
-
 -- ---- the offsets of a window
 
 near_all : (k : ℕ) (xs : List ℤ) → ((i : ℕ) → i < length xs → IsNear k (offset_at xs i)) → AreNear k xs
@@ -45,7 +42,7 @@ window_near : (w : ℕ) (xs : List ℤ) → IsWindow w xs → AreNear (w / 2) xs
 window_near w xs v = grind (arith, near_all)
 
 window_sized : (w : ℕ) (xs : List ℤ) → IsWindow w xs → Sized w w (map (raised (w / 2)) xs)
-window_sized w xs v = grind (arith, length_map, raised, all_low, window_near)
+window_sized w xs v = grind (arith, length-map, all_low, window_near)
 
 -- ---- different windows
 
@@ -75,7 +72,7 @@ all_sized w (x ∷ xs) vs = (window_sized w x (vs 0 (omega arith)), all_sized w 
 
 pub few_windows : (w : ℕ) (windows : List (List ℤ)) → IsAscending windows → AreWindows w windows
     → length windows ≤ w ^ w
-few_windows w windows up vs = grind (arith, length_map, few_lists, all_sized, different)
+few_windows w windows up vs = grind (arith, length-map, few_lists, all_sized, different)
 
 power_low : (w : ℕ) → IsWidth w → w ^ w ≤ 823543
 power_low w is = elim (cases_eq w 1) [
