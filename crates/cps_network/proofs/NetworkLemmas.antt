@@ -34,7 +34,8 @@ contains_in (r ∷ rs) x has = elim (Contains-push_cases (reverse rs) r x (rw (r
 in_contains : (rs : List ℕ) (x : ℕ) → In x rs → Contains (reverse rs) x
 in_contains [] x i = absurd i
 in_contains (r ∷ rs) x (inl e) = rw (reverse_more r rs, e) (Contains-push (reverse rs) r)
-in_contains (r ∷ rs) x (inr i) = rw (reverse_more r rs) (Contains-append_left (reverse rs) (r ∷ []) x (in_contains rs x i))
+in_contains (r ∷ rs) x (inr i) =
+    rw (reverse_more r rs) (Contains-append_left (reverse rs) (r ∷ []) x (in_contains rs x i))
 
 read_old : (ranks : List ℕ) (r i : ℕ) → i < length ranks → get_or (ranks ++ r ∷ []) i 0 ≡ get_or ranks i 0
 read_old ranks r i lt = get_or_append_left ranks (r ∷ []) 0 i lt

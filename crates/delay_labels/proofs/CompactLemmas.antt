@@ -27,7 +27,13 @@ pub parts_have : (pairs : List Pair) (parts : List (ℕ × ℕ)) → All (IsPart
     → map (λ (x : ℕ × ℕ). nat_lt x.0 x.1) parts ≡ map has_some (lists_of pairs parts)
 parts_have pairs [] all = refl
 parts_have pairs (x ∷ parts) all =
-    grind (arith, part_has_some, All-head, All-tail, parts_have pairs parts (All-tail (IsPart (length pairs)) x parts all))
+    grind (
+      arith,
+      part_has_some,
+      All-head,
+      All-tail,
+      parts_have pairs parts (All-tail (IsPart (length pairs)) x parts all),
+    )
 
 pub lists_kept : (pairs : List Pair) (parts : List (ℕ × ℕ)) (bs : List Bool) (after : List (ℕ × ℕ))
     (lists : List (List Pair)) → after ≡ kept_where bs parts → bs ≡ map has_some (lists_of pairs parts)

@@ -30,7 +30,13 @@ lists_grow : (pairs more : List Pair) (parts : List (ℕ × ℕ)) → All (IsPar
     → lists_of (pairs ++ more) parts ≡ lists_of pairs parts
 lists_grow pairs more [] all = refl
 lists_grow pairs more (x ∷ parts) all =
-    grind (arith, All-head, part_grows, All-tail, lists_grow pairs more parts (All-tail (IsPart (length pairs)) x parts all))
+    grind (
+      arith,
+      All-head,
+      part_grows,
+      All-tail,
+      lists_grow pairs more parts (All-tail (IsPart (length pairs)) x parts all),
+    )
 
 lists_append : (pairs : List Pair) (parts : List (ℕ × ℕ)) (x : ℕ × ℕ)
     → lists_of pairs (parts ++ x ∷ []) ≡ lists_of pairs parts ++ slice_range pairs x.0 x.1 ∷ []

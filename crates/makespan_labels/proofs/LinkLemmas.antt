@@ -102,7 +102,19 @@ module _ (p : Problem) (w : ℕ) (before stage : ℕ × List (List ℤ)) (labels
         record {
           from = (range_at ranges g).0;
           over = at;
-          landed = search (rules, leader_flight, before.0, before.1, can.odd, can.laws, can.held, at.labelled.to, at.labelled.group, at.leader, at.labelled.leads);
+          landed = search (
+            rules,
+            leader_flight,
+            before.0,
+            before.1,
+            can.odd,
+            can.laws,
+            can.held,
+            at.labelled.to,
+            at.labelled.group,
+            at.leader,
+            at.labelled.leads,
+          );
           leads = leads_there i lt;
         };
   }

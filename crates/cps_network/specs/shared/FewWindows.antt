@@ -79,7 +79,10 @@ power_low w is = elim (cases_eq w 1) [
   | inl e ↦ grind arith
   | inr not_one ↦ elim (cases_eq w 3) [
     | inl e ↦ grind arith
-    | inr not_three ↦ elim (cases_eq w 5) [ inl e ↦ grind arith | inr not_five ↦ let e : w ≡ 7 = omega arith in grind arith ]
+    | inr not_three ↦ elim (cases_eq w 5) [
+      | inl e ↦ grind arith
+      | inr not_five ↦ let e : w ≡ 7 = omega arith in grind arith
+    ]
   ]
 ]
 
