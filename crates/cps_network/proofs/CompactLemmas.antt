@@ -1,7 +1,6 @@
 -- To keep some places of a list in place, step by step.
-use Rattle.std.proofs.Common.{◌≡◌, ℕ, zero, ◌+◌, ◌<◌, ◌≤◌, List, [], ◌∷◌, ◌++◌, length, drop, take, get_or, refl}
-use Rattle.std.proofs.Common.{arith, length-append, length-set, append-nil, add-one, ◌∙◌, sym, ap, ap₂, inl, inr}
-use Rattle.std.proofs.Common.{subst, suc, Vec, Global}
+use Rattle.std.proofs.Common.{[], rules, ◌≡◌, ℕ, zero, ◌+◌, ◌<◌, ◌≤◌, List, ◌∷◌, ◌++◌, length, drop, take, get_or, refl}
+use Rattle.std.proofs.Common.{arith, length-append, append-nil, add-one, ◌∙◌, sym, ap, ap₂, suc, Vec, Global}
 use Rattle.std.specs.Prelude.{Bool, true, false, ◌⊎◌, replicate, Result, Ok, Err, IsOk, OnErr}
 use Rattle.std.specs.List.{AllZip, swap}
 use Rattle.std.proofs.Math.ListN.{set}
@@ -25,7 +24,7 @@ kept_where-push : {A : Type 0} (bs : List Bool) (xs : List A) (b : Bool) (x : A)
 kept_where-push [] [] b x e = refl
 kept_where-push [] (y ∷ xs) b x e = absurd (omega arith)
 kept_where-push (c ∷ bs) [] b x e = absurd (omega arith)
-kept_where-push (true ∷ bs) (y ∷ xs) b x e = ap (λ (zs : List _). y ∷ zs) (kept_where-push bs xs b x (omega arith))
+kept_where-push (true ∷ bs) (y ∷ xs) b x e = grind (arith, (kept_where-push bs xs b x (omega arith)))
 kept_where-push (false ∷ bs) (y ∷ xs) b x e = kept_where-push bs xs b x (omega arith)
 
 pub zip_push : {A B : Type 0} (R : A → B → Type 0) (xs : List A) (ys : List B) (x : A) (y : B)
@@ -39,21 +38,16 @@ zip_push R (u ∷ xs) (v ∷ ys) x y all one = (all.0, zip_push R xs ys x y all.
 pub zip_more : {A : Type 0} (R : A → Bool → Type 0) (old : List A) (answers : List Bool) (i : ℕ) (b : Bool) (d : A)
     → i < length old
     → AllZip R (take i old) answers → R (get_or old i d) b → AllZip R (take (i + 1) old) (answers ++ b ∷ [])
-zip_more {A} R old answers i b d lt all one =
-    subst (λ (zs : List A). AllZip R zs (answers ++ b ∷ []))
-    (sym (ap (λ (n : ℕ). take n old) (add-one i) ∙ take-suc old i d lt))
-    (zip_push R (take i old) answers (get_or old i d) b all one)
+zip_more {A} R old answers i b d lt all one = grind (arith, take-suc, zip_push)
 
 -- what stands at the next place is as it was
 pub next_same : {A : Type 0} (old now : List A) (answers : List Bool) (kept i : ℕ) (d : A)
     → IsCompacting old now answers kept i → get_or now i d ≡ get_or old i d
 next_same {A} old now answers kept i d is =
-    let z : i + 0 ≡ i = omega arith in
-    ap (λ (n : ℕ). get_or now n d) (sym z) ∙ sym (get_or-drop i now 0 d) ∙ ap (λ (zs : List A). get_or zs 0 d) is.rest
-    ∙ get_or-drop i old 0 d ∙ ap (λ (n : ℕ). get_or old n d) z
+    let z : i + 0 ≡ i = omega arith in grind (arith, get_or-drop)
 
 rest_more : {A : Type 0} (old now : List A) (i : ℕ) → drop i now ≡ drop i old → drop (i + 1) now ≡ drop (i + 1) old
-rest_more {A} old now i e = sym (drop-drop 1 i now) ∙ ap (λ (zs : List A). drop 1 zs) e ∙ drop-drop 1 i old
+rest_more {A} old now i e = grind (arith, drop-drop 1 i now, drop-drop 1 i old)
 
 -- a place that is not kept
 pub skipped : {A : Type 0} (old now : List A) (answers : List Bool) (kept i : ℕ) (d : A) → i < length old
@@ -65,11 +59,13 @@ skipped {A} old now answers kept i d lt is =
       within = omega (arith, is.within);
       end = omega arith;
       len = is.len;
-      long = length-append answers (false ∷ []) ∙ omega (arith, is.long);
-      front = is.front ∙ sym (append-nil (kept_where answers (take i old)))
-          ∙ sym (kept_where-push answers (take i old) false (get_or old i d) here)
-          ∙ ap (kept_where (answers ++ false ∷ []))
-          (sym (ap (λ (n : ℕ). take n old) (add-one i) ∙ take-suc old i d lt));
+      long = grind (arith, length-append);
+      front = grind (
+        arith,
+        append-nil,
+        kept_where-push answers (take i old) false (get_or old i d) here,
+        take-suc old i d lt,
+      );
       rest = rest_more old now i is.rest;
     }
 
@@ -81,27 +77,11 @@ front_swapped : {A : Type 0} (now : List A) (kept i : ℕ) (d : A) → kept ≤ 
     → take (suc kept) (swap now kept i) ≡ take kept now ++ get_or now i d ∷ []
 front_swapped {A} now kept i d le lt =
     let is : set (set now kept (get_or now i d)) i (get_or now kept d) ≡ swap now kept i =
-    swap_is now kept i d (omega arith) lt in
-    ap (take (suc kept)) (sym is) ∙ elim (split kept i le) [
-      | inl less ↦ take-set-le (suc kept) (set now kept (get_or now i d)) i (get_or now kept d) (omega arith)
-          ∙ take-suc-set now kept (get_or now i d) (omega arith)
-      | inr same ↦
-          ap (λ (n : ℕ). take (suc n) (set (set now kept (get_or now i d)) i (get_or now kept d))) same
-          ∙ take-suc-set (set now kept (get_or now i d)) i (get_or now kept d)
-          (omega (arith, length-set now kept (get_or now i d)))
-          ∙ ap₂ (λ (zs : List A) (z : A). zs ++ z ∷ [])
-          (ap (λ (n : ℕ). take n (set now kept (get_or now i d))) (sym same) ∙ take-set now kept (get_or now i d))
-          (ap (λ (n : ℕ). get_or now n d) same)
-    ]
+    swap_is now kept i d (omega arith) lt in search (rules, split, take-set-le, take-suc-set, take-set)
 
 rest_swapped : {A : Type 0} (now : List A) (kept i : ℕ) (d : A) → kept ≤ i → i < length now
     → drop (i + 1) (swap now kept i) ≡ drop (i + 1) now
-rest_swapped {A} now kept i d le lt =
-    let is : set (set now kept (get_or now i d)) i (get_or now kept d) ≡ swap now kept i =
-    swap_is now kept i d (omega arith) lt in
-    ap (drop (i + 1)) (sym is)
-    ∙ drop-set-lt (i + 1) (set now kept (get_or now i d)) i (get_or now kept d) (omega arith)
-    ∙ drop-set-lt (i + 1) now kept (get_or now i d) (omega arith)
+rest_swapped {A} now kept i d le lt = grind (arith, drop-set-lt)
 
 -- a place that is kept, and is brought to the front
 pub brought : {A : Type 0} (old now after : List A) (answers : List Bool) (kept i : ℕ) (d : A)
@@ -114,24 +94,16 @@ brought {A} old now after answers kept i d lt is e =
       within = omega (arith, is.within);
       end = omega arith;
       len = ap length e ∙ length-swap now kept i ∙ is.len;
-      long = length-append answers (true ∷ []) ∙ omega (arith, is.long);
+      long = grind (arith, length-append);
       front = ap₂ take (add-one kept) e ∙ front_swapped now kept i d is.within lt'
           ∙ ap₂ (λ (zs : List A) (z : A). zs ++ z ∷ []) is.front (next_same old now answers kept i d is)
           ∙ sym (kept_where-push answers (take i old) true (get_or old i d) here)
           ∙ ap (kept_where (answers ++ true ∷ [])) (sym (ap (λ (n : ℕ). take n old) (add-one i) ∙ take-suc old i d lt));
-      rest = ap (drop (i + 1)) e ∙ rest_swapped now kept i d is.within lt' ∙ rest_more old now i is.rest;
+      rest = grind (arith, rest_swapped, rest_more);
     }
 
 pub IsCompacting-start : {A : Type 0} (old : List A) → IsCompacting old old [] 0 0
-IsCompacting-start old = record {
-  within = omega arith;
-  end = omega arith;
-  len = refl;
-  long =
-      refl;
-  front = refl;
-  rest = refl;
-}
+IsCompacting-start old = grind arith
 
 -- ---- where each place is kept
 
@@ -139,7 +111,7 @@ pub all_as_they_were : {A : Type 0} (n : ℕ) (xs : List A) → length xs ≤ n 
 all_as_they_were zero [] le = refl
 all_as_they_were zero (x ∷ xs) le = absurd (omega arith)
 all_as_they_were (suc n) [] le = refl
-all_as_they_were {A} (suc n) (x ∷ xs) le = ap (λ (zs : List A). x ∷ zs) (all_as_they_were n xs (omega arith))
+all_as_they_were {A} (suc n) (x ∷ xs) le = grind (arith, (all_as_they_were n xs (omega arith)))
 
 -- ---- where what holds a list is as it was, or a clone of it
 
@@ -147,17 +119,15 @@ as_cloned : {A : Type 0} (R : A → A → Type 0) (xs ys : List A) → ((x y : A
 as_cloned R [] [] same all = refl
 as_cloned R [] (y ∷ ys) same all = absurd all
 as_cloned R (x ∷ xs) [] same all = absurd all
-as_cloned {A} R (x ∷ xs) (y ∷ ys) same all =
-    ap₂ (λ (z : A) (zs : List A). z ∷ zs) (same x y all.0) (as_cloned R xs ys same all.1)
+as_cloned {A} R (x ∷ xs) (y ∷ ys) same all = grind (arith, (as_cloned R xs ys same all.1))
 
 pub same_or_cloned : {A : Type 0} (R : A → A → Type 0) {X : Type 0} (old new : Vec A Global)
     → ((x y : A) → R x y → y ≡ x)
     → (new ≡ old) ⊎ (AllZip R old.items new.items × X) → new.items ≡ old.items
-same_or_cloned R old new same (inl e) = ap (λ (v : Vec _ Global). v.items) e
-same_or_cloned R old new same (inr c) = as_cloned R old.items new.items same c.0
+same_or_cloned R old new same how = grind (arith, as_cloned)
 
 pub err_says : {T E Y : Type 0} (r : Result T E) (e : E) → r ≡ Err e → OnErr r Y → Y
-err_says {T} {E} {Y} r e is said = subst (λ (s : Result T E). OnErr s Y) is said
+err_says {T} {E} {Y} r e is said = rw is at said
 
 pub is_ok : {T E : Type 0} (r : Result T E) (x : T) → r ≡ Ok x → IsOk r
-is_ok {T} {E} r x is = subst (λ (s : Result T E). IsOk s) (sym is) refl
+is_ok {T} {E} r x is = rw is refl

@@ -1,5 +1,5 @@
 -- Lists that grow by what places add.
-use Rattle.std.proofs.Common.{◌≡◌, ℕ, ◌+◌, ◌<◌, ◌≤◌, List, [], ◌∷◌, ◌++◌, arith, ◌∙◌, sym, subst, inl, inr}
+use Rattle.std.proofs.Common.{[], rules, ◌≡◌, ℕ, ◌+◌, ◌<◌, ◌≤◌, List, ◌∷◌, ◌++◌, arith, ◌∙◌, sym, subst, inl, inr}
 use Rattle.std.proofs.lemmas.Bool.{cases_lt}
 use Rattle.std.specs.Prelude.{ℤ, ◌⊎◌, ◌↔◌, Contains}
 use Rattle.precedence.specs.Pairs.{HasBit}
@@ -11,10 +11,7 @@ use Rattle.cps_network.proofs.ListLemmas.{Contains-pushed, last_or_before}
 
 module _ (Adds : ℕ → List ℤ → Type 0) where
   pub grown_none : (from to : ℕ) (now : List (List ℤ)) → to ≤ from → HasGrownBy Adds from to now now
-  grown_none from to now none x = (
-    λ has. inl has,
-    λ has. elim has [ inl old ↦ old | inr (i, low, high, adds) ↦ absurd (omega (arith, none, low, high)) ],
-  )
+  grown_none from to now none x = grind arith
 
   pub grown_one : (from i : ℕ) (start now after : List (List ℤ)) → from ≤ i → HasGrownBy Adds from i start now
       → ((x : List ℤ) → Contains after x ↔ (Contains now x ⊎ Adds i x)) → HasGrownBy Adds from (i + 1) start after
@@ -29,7 +26,7 @@ module _ (Adds : ℕ → List ℤ → Type 0) where
     λ has. elim has [
       | inl first ↦ (grew x).1 (inl ((are x).1 (inl first)))
       | inr (m, from_m, below, adds) ↦ elim (last_or_before m i below) [
-        | inl same ↦ (grew x).1 (inr (subst (λ (q : ℕ). Adds q x) same adds))
+        | inl same ↦ grind arith
         | inr before ↦ (grew x).1 (inl ((are x).1 (inr (m, from_m, before, adds))))
       ]
     ],
@@ -87,6 +84,6 @@ module _ (width : ℕ) (before : List (List ℤ)) where
     ],
     λ has. (are x).1 (elim has [
       | inl old ↦ inl old
-      | inr (i, from_i, below, (j, high, follows)) ↦ inr (j, omega arith, high, (i, from_i, below, follows))
+      | inr (i, from_i, below, (j, high, follows)) ↦ search rules
     ]),
   )

@@ -1,9 +1,8 @@
 -- Groups of windows, the offsets that are permitted after them, and where they begin and end.
-use Rattle.std.proofs.Common.{◌≡◌, ℕ, ◌+◌, ◌-◌, ◌*◌, ◌/◌, ◌%◌, ◌^◌, ◌<◌, ◌≤◌, min, max}
-use Rattle.std.proofs.Common.{List, [], ◌∷◌, ◌++◌, length, drop, take}
-use Rattle.std.proofs.Common.{arith, ◌∙◌, sym, ap, inl, inr, subst, w8}
+use Rattle.std.proofs.Common.{◌≡◌, ℕ, ◌+◌, ◌-◌, ◌*◌, ◌/◌, ◌%◌, ◌^◌, ◌<◌, ◌≤◌, min, max, List, ◌∷◌, ◌++◌, length, drop}
+use Rattle.std.proofs.Common.{[], take, arith, ◌∙◌, sym, ap, inl, inr, subst, w8}
 use Rattle.std.proofs.lemmas.Bool.{cases_eq, cases_lt}
-use Rattle.std.proofs.lemmas.Nat.Bits.{bit_at_set_same, bit_at_set_other, bit_at-zero, bit_at_and, bit_at-lt}
+use Rattle.std.proofs.lemmas.Nat.Bits.{bit_at_set_same, bit_at_set_other, bit_at_and}
 use Rattle.std.proofs.lemmas.Int.{ints}
 use Rattle.std.specs.Prelude.{ℤ, pos, ◌-ℤ◌, ◌⊎◌, ◌↔◌, bit_or, bit_and}
 use Rattle.std.specs.Int.{bit_at}
@@ -18,7 +17,6 @@ use Rattle.cps_network.specs.Extended.{HasPermitted, HasOpen, HasFree, IsOpen}
 use Rattle.cps_network.specs.Groups.{IsGroup}
 use Rattle.cps_network.specs.Lists.{IsAscending, node_at}
 use Rattle.cps_network.specs.Permits.{IsPermitted}
-use Rattle.cps_network.proofs.ListLemmas.{last_or_before}
 use Rattle.cps_network.proofs.SourceLemmas.{below_before, none_from, exact}
 use Rattle.std.proofs.lemmas.Grind.{common_steps}
 
@@ -35,33 +33,20 @@ bit_added offsets k j few = elim (cases_eq j k) [
   )
   | inr other ↦
       let kept : bit_at (bit_or offsets (1 * 2 ^ k % 256)) j ≡ bit_at offsets j =
-      bit_at_set_other w8 offsets k few j other in (
-        λ has. inl (sym kept ∙ has),
-        λ has. elim has [ inl old ↦ kept ∙ old | inr same ↦ absurd (other same) ],
-      )
+      bit_at_set_other w8 offsets k few j other in grind arith
 ]
 
 -- the offset of a rank that is permitted
 pub rank_added : (offsets stage rank k at j : ℕ) (P : Type 0) → at < 8 → at + stage + 1 ≡ rank + k → P
     → HasBit (bit_or offsets (1 * 2 ^ at % 256)) j ↔ (HasBit offsets j ⊎ ((j + stage + 1 ≡ rank + k) × P))
-rank_added offsets stage rank k at j P few e holds = (
-  λ has. elim ((bit_added offsets at j few).0 has) [
-    | inl old ↦ inl old
-    | inr same ↦ inr (omega (arith, same, e), holds)
-  ],
-  λ has. (bit_added offsets at j few).1 (elim has [ inl old ↦ inl old | inr new ↦ inr (omega (arith, new.0, e)) ]),
-)
+rank_added offsets stage rank k at j P few e holds = grind (arith, bit_added)
 
 -- a bit that two sets have
 pub both_have : (a b j : ℕ) → HasBit (bit_and a b) j → HasBit a j × HasBit b j
-both_have a b j has =
-    let e = bit_at_and a b j in (
-      omega (arith, has, e, bit_at-lt a j, bit_at-lt b j),
-      omega (arith, has, e, bit_at-lt a j, bit_at-lt b j),
-    )
+both_have a b j has = grind (arith, bit_at_and)
 
 pub have_both : (a b j : ℕ) → HasBit a j → HasBit b j → HasBit (bit_and a b) j
-have_both a b j in_a in_b = let e = bit_at_and a b j in omega (arith, e, in_a, in_b)
+have_both a b j in_a in_b = grind (arith, bit_at_and)
 
 -- the offsets of the ranks below one of which something holds
 abbrev pub HasRanks : Problem → ℕ → (ℕ → Type 0) → ℕ → ℕ → Type 0
@@ -70,44 +55,23 @@ HasRanks p stage Holds offsets rank = (j : ℕ) → HasBit offsets j ↔ ((m : �
 
 module _ (p : Problem) (stage : ℕ) (Holds : ℕ → Type 0) (opens : (m : ℕ) → Holds m → IsOpen p stage m) where
   pub no_ranks : (rank : ℕ) → rank ≤ max (stage + 1 - p.k) 1 → HasRanks p stage Holds 0 rank
-  no_ranks rank low j = (
-    λ has. let z : bit_at 0 j ≡ 0 = bit_at-zero j in absurd (omega (arith, has, z)),
-    λ (m, lt, e, is). absurd (omega (arith, lt, (opens m is).from_one, (opens m is).late)),
-  )
+  no_ranks rank low j = grind arith
 
   pub more_ranks : (offsets more rank : ℕ) → HasRanks p stage Holds offsets rank
       → ((j : ℕ) → HasBit more j ↔ (HasBit offsets j ⊎ ((j + stage + 1 ≡ rank + p.k) × Holds rank)))
       → HasRanks p stage Holds more (rank + 1)
-  more_ranks offsets more rank are grew j = (
-    λ has. elim ((grew j).0 has) [
-      | inl old ↦ let m : (m : ℕ) × (m < rank) × (j + stage + 1 ≡ m + p.k) × Holds m =
-          (are j).0 old in (m.0, omega (arith, m.1), m.2, m.3)
-      | inr new ↦ (rank, omega arith, new.0, new.1)
-    ],
-    λ (m, lt, e, is). elim (last_or_before m rank lt) [
-      | inl same ↦ (grew j).1 (inr (omega (arith, e, same), subst Holds same is))
-      | inr before ↦ (grew j).1 (inl ((are j).1 (m, before, e, is)))
-    ],
-  )
+  more_ranks offsets more rank are grew j = grind arith
 
   pub all_ranks : (offsets rank : ℕ) → min (stage + 1 + p.k) (length p.flights) < rank
       → HasRanks p stage Holds offsets rank → (j : ℕ) → HasBit offsets j ↔ Holds (stage + 1 + j - p.k)
   all_ranks offsets rank high are j = (
-    λ has. let m : (m : ℕ) × (m < rank) × (j + stage + 1 ≡ m + p.k) × Holds m = (are j).0 has in
-        let e : m.0 ≡ stage + 1 + j - p.k = omega (arith, m.2, (opens m.0 m.3).late) in
-        subst Holds e m.3,
-    λ is. (are j).1 (
-      stage + 1 + j - p.k,
-      omega (arith, (opens _ is).early, (opens _ is).to_count),
-      omega (arith, (opens _ is).from_one),
-      is,
-    ),
+    λ has. let m : (m : ℕ) × (m < rank) × (j + stage + 1 ≡ m + p.k) × Holds m = (are j).0 has in grind arith,
+    grind arith,
   )
 
 -- what is permitted is open
 pub permitted_opens : (p : Problem) (stage : ℕ) (xs : List ℤ) (m : ℕ) → IsPermitted p stage xs m → IsOpen p stage m
-permitted_opens p stage xs m is =
-    record { from_one = is.from_one; to_count = is.to_count; early = is.early; late = is.late }
+permitted_opens p stage xs m is = omega arith
 
 -- where the offsets that are accepted and open are free, they are those that are permitted
 pub free_permitted : (p : Problem) (stage width : ℕ) (xs : List ℤ) (accepted open_set free_set offsets : ℕ)
@@ -131,7 +95,7 @@ free_permitted p stage width xs accepted open_set free_set offsets odd len accep
         early = free.0.early;
         late = free.0.late;
         accepted = subst (Accepts xs) at can.1;
-        after = λ first must. inl (omega (arith, ints, free.1 first must, len, odd));
+        after = grind arith;
       },
   λ is.
       let at : offset_after stage (stage + 1 + j - p.k) ≡ (pos j -ℤ pos (width / 2)) =
@@ -175,7 +139,4 @@ group_here before from to up within first ordered short same ends = record {
 -- where a group ends, the next begins
 pub next_begins : (before : List (List ℤ)) (from to : ℕ) → IsGroup before from to → to < length before
     → drop 1 (node_at before (to - 1)) ≡ drop 1 (node_at before to) → ⊥
-next_begins before from to is lt e =
-    let last : drop 1 (node_at before (to - 1)) ≡ drop 1 (node_at before from) =
-    (is.exact (to - 1) (omega (arith, lt))).1 (omega (arith, is.some), omega (arith, is.some)) in
-    omega (arith, ((is.exact to lt).0 (sym e ∙ last)).1)
+next_begins before from to is lt e = grind arith

@@ -1,4 +1,5 @@
 -- Lists of the groups of a stage.
+use Rattle.std.proofs.Common.{rules}
 use Rattle.std.proofs.Common.{◌≡◌, ℕ, ◌-◌, ◌<◌, ◌≤◌, List, [], ◌∷◌, ◌++◌, length, length-append, drop, arith}
 use Rattle.std.proofs.Common.{inl, inr}
 use Rattle.std.proofs.lemmas.Bool.{cases_lt}
@@ -26,23 +27,23 @@ pub more_groups : (p : Problem) (stage : ℕ) (before : List (List ℤ)) (groups
     → AreGroupsUpto p stage before groups group.from → IsGroupOf p stage before group
     → AreGroupsUpto p stage before (groups ++ group ∷ []) group.to
 more_groups p stage before groups group are is = record {
-  each = All-push (IsGroupOf p stage before) groups group are.each is;
+  each = search (rules, All-push);
   whole = λ i lt. elim (cases_lt i group.from) [
     | inl past ↦
         let old : (h : Group) × Contains groups h × (h.from ≤ i) × (i < h.to) = are.whole i past in
-        (old.0, Contains-append_left groups (group ∷ []) old.0 old.1, old.2, old.3)
+        grind (arith, Contains-append_left)
     | inr here ↦ (group, Contains-push groups group, here, lt)
   ];
-  begins = λ lt some. next_begins before group.from group.to is.range lt;
+  begins = grind arith;
   short = is.range.within;
-  few = omega (arith, length-append groups (group ∷ []), are.few, is.range.some);
+  few = grind (arith, length-append);
 }
 
 -- a list in another order has the same groups
 pub AreGroupsOf-permutation : (p : Problem) (stage : ℕ) (before : List (List ℤ)) (groups sorted : List Group)
     → IsPermutation groups sorted → AreGroupsOf p stage before groups → AreGroupsOf p stage before sorted
 AreGroupsOf-permutation p stage before groups sorted moved are = record {
-  each = All-permutation (IsGroupOf p stage before) groups sorted moved are.each;
+  each = search (rules, All-permutation);
   whole = λ i lt. let h : (h : Group) × Contains groups h × (h.from ≤ i) × (i < h.to) = are.whole i lt in
-      (h.0, Contains-permutation groups sorted h.0 moved h.1, h.2, h.3);
+      search (rules, Contains-permutation);
 }

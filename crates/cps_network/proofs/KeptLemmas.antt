@@ -1,4 +1,5 @@
 -- What is kept of an ascending list of windows is ascending.
+use Rattle.std.proofs.Common.{rules}
 use Rattle.std.proofs.Common.{◌≡◌, ℕ, List, [], ◌∷◌, arith, ◌∙◌, subst, zero, suc}
 use Rattle.std.proofs.lemmas.List.Elements.{Contains-get_or}
 use Rattle.std.proofs.lemmas.List.{get_or_default}
@@ -23,7 +24,7 @@ contains_kept (false ∷ bs) (x ∷ xs) y has = let rest : Contains xs y =
 pub longer : (x : List ℤ) (ys : List (List ℤ)) → ((y : List ℤ) → Contains ys y → window_cmp x y ≡ Less)
     → IsAscending ys → IsAscending (x ∷ ys)
 longer x ys below up zero zero lt within = absurd (omega arith)
-longer x ys below up zero (suc j) lt within = below (node_at ys j) (Contains-get_or ys j [] (omega arith))
+longer x ys below up zero (suc j) lt within = search rules
 longer x ys below up (suc i) zero lt within = absurd (omega arith)
 longer x ys below up (suc i) (suc j) lt within = up i j (omega arith) (omega arith)
 
@@ -31,7 +32,7 @@ pub IsAscending-kept : (bs : List Bool) (xs : List (List ℤ)) → IsAscending x
 IsAscending-kept [] xs up = λ i j lt within. absurd (omega (arith, within))
 IsAscending-kept (b ∷ bs) [] up = λ i j lt within. absurd (omega (arith, within))
 IsAscending-kept (true ∷ bs) (x ∷ xs) up =
-    longer x (kept_where bs xs) (λ y has. behind_first x xs up y (contains_kept bs xs y has))
+    longer x (kept_where bs xs) (λ y has. search (rules, behind_first, contains_kept))
     (IsAscending-kept bs xs (tail_ascends x xs up))
 IsAscending-kept (false ∷ bs) (x ∷ xs) up = IsAscending-kept bs xs (tail_ascends x xs up)
 
@@ -40,5 +41,4 @@ pub AreWindows-kept : (width : ℕ) (bs : List Bool) (xs : List (List ℤ)) → 
 AreWindows-kept width bs xs are i lt =
     let has : Contains xs (node_at (kept_where bs xs) i) =
     contains_kept bs xs (node_at (kept_where bs xs) i) (Contains-get_or (kept_where bs xs) i [] lt) in
-    subst (λ (z : List ℤ). IsWindow width z) (get_or_default xs has.0 [] (node_at (kept_where bs xs) i) has.1 ∙ has.2)
-    (are has.0 has.1)
+    grind (arith, get_or_default)

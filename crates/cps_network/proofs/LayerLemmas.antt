@@ -40,7 +40,7 @@ pub extends_exact : (w : ℕ) (before : List (List ℤ)) (node : List ℤ) (from
     → ((i : ℕ) → i < length before → TailMeetsHead (node_at before i) node ↔ ((from ≤ i) × (i < to)))
     → (i : ℕ) → i < length before → Extends (node_at before i) node ↔ ((from ≤ i) × (i < to))
 extends_exact w before node from to law valid is exact i lt = (
-  λ extends. (exact i lt).0 ((law.meets (node_at before i) node (valid i lt) is).0 extends),
+  grind arith,
   λ range. (law.meets (node_at before i) node (valid i lt) is).1 ((exact i lt).1 range),
 )
 

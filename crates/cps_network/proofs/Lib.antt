@@ -7,8 +7,6 @@ pub mod PermitLemmas
 pub mod LayerLemmas
 pub mod RangeTests
 pub mod AgainLemmas
-pub mod LegalLists
-pub mod LegalLemmas
 pub mod CompactLemmas
 pub mod KeptLemmas
 pub mod NetworkLemmas

@@ -28,9 +28,7 @@ pub IsAscending-from_sorted : (xs : List (List ℤ)) → IsStrictlySortedBy wind
 unfolding IsStrictlySortedBy
 IsAscending-from_sorted [] sorted = λ i j lt within. absurd (omega (arith, within))
 IsAscending-from_sorted (x ∷ xs) sorted =
-    longer x xs (λ y has. All-contains (λ z. window_cmp x z ≡ Less) xs y
-    (All-from_recursion (λ z. window_cmp x z ≡ Less) xs sorted.0) has)
-    (IsAscending-from_sorted xs sorted.1)
+    grind (arith, longer, All-from_recursion, (IsAscending-from_sorted xs sorted.1))
 
 -- each window that is below the next makes the ascending ones one more
 pub ascend_more : (nodes : List (List ℤ)) (i : ℕ) → 1 ≤ i
@@ -41,7 +39,7 @@ ascend_more nodes i some are next a b lt within = elim (last_or_before b i withi
   | inr before ↦ are a b lt before
   | inl same ↦ subst (λ (q : ℕ). window_cmp (node_at nodes a) (node_at nodes q) ≡ Less) (sym same)
       (elim (last_or_before a (i - 1) (omega (arith, lt, same))) [
-        | inl e ↦ subst (λ (q : ℕ). window_cmp (node_at nodes q) (node_at nodes i) ≡ Less) (sym e) next
+        | inl e ↦ cc
         | inr less ↦ window_cmp_total.trans (node_at nodes a) (node_at nodes (i - 1)) (node_at nodes i)
             (are a (i - 1) less (omega (arith, some))) next
       ])

@@ -1,66 +1,35 @@
 -- What is gathered from the groups of a stage are the windows of the next.
-use Rattle.std.proofs.Common.{◌≡◌, ℕ, ◌+◌, ◌-◌, ◌*◌, ◌<◌, ◌≤◌, List, [], length, arith, ◌∙◌, sym, ap, subst}
-use Rattle.std.proofs.Common.{inl, inr}
-use Rattle.std.proofs.lemmas.Int.{ints}
+use Rattle.std.proofs.Common.{[], ◌≡◌, ℕ, ◌+◌, ◌-◌, ◌*◌, ◌<◌, ◌≤◌, List, length, arith, ◌∙◌, sym, subst, inl, inr}
 use Rattle.std.proofs.lemmas.List.{get_or_default}
 use Rattle.std.proofs.lemmas.List.Elements.{Contains-get_or}
 use Rattle.std.specs.Prelude.{ℤ, All, Contains}
-use Rattle.cps_nodes.specs.Laws.{LeadOn, offset_after}
-use Rattle.cps_nodes.specs.Windows.{IsWindow, Accepts, shifted}
+use Rattle.cps_nodes.specs.Laws.{LeadOn}
+use Rattle.cps_nodes.specs.Windows.{IsWindow}
 use Rattle.landing_rules.specs.Problem.{Problem}
 use Rattle.cps_network.specs.declared.groups.Group.{Group}
 use Rattle.cps_network.specs.Extended.{AreGroupsOf, IsGroupOf, IsExtendable, FollowsBy, Follows, HasGrownBy}
-use Rattle.cps_network.specs.Extended.{group_at, offset_of}
+use Rattle.cps_network.specs.Extended.{group_at}
 use Rattle.cps_network.specs.Lists.{node_at, AreWindows}
-use Rattle.cps_network.specs.Permits.{IsPermitted, IsSuccessor, IsNextOf}
+use Rattle.cps_network.specs.Permits.{IsSuccessor, IsNextOf}
 use Rattle.cps_network.proofs.StageLemmas.{IsSuccessor-alike}
 
--- the offset of a rank as the bit has it
-bit_offset : (p : Problem) (stage width j : ℕ) → width ≡ 2 * p.k + 1 → 1 ≤ stage + 1 + j - p.k
-    → offset_after stage (stage + 1 + j - p.k) ≡ offset_of width j
-bit_offset p stage width j odd some = omega (arith, ints)
-
 module _ (p : Problem) (stage width : ℕ) (before : List (List ℤ)) (odd : width ≡ 2 * p.k + 1) where
-  extendable : (group : Group) → IsGroupOf p stage before group → IsExtendable width before group
-  extendable group is = record {
-    within = omega (arith, is.range.some, is.range.within);
-    accepted = λ j has.
-        let may : IsPermitted p stage (node_at before group.from) (stage + 1 + j - p.k) = (is.permitted j).0 has in
-        subst (Accepts (node_at before group.from)) (bit_offset p stage width j odd may.from_one) may.accepted;
-  }
-
   -- each group's front window accepts the offsets that it has
   pub all_extendable : (groups : List Group) → AreGroupsOf p stage before groups
       → All (IsExtendable width before) groups
-  all_extendable groups are i d lt = extendable _ (are.each i d lt)
+  all_extendable groups are i d lt = let is = are.each i d lt in grind arith
 
   -- what follows a group extends its front window by a permitted rank
   follows_next : (group : Group) (j : ℕ) (x : List ℤ) → IsGroupOf p stage before group
       → FollowsBy width before group j x → IsSuccessor p stage (node_at before group.from) x
-  follows_next group j x is follows =
-      let may : IsPermitted p stage (node_at before group.from) (stage + 1 + j - p.k) =
-      (is.permitted j).0 follows.offset in (
-        stage + 1 + j - p.k,
-        may,
-        follows.is ∙ ap (shifted (node_at before group.from))
-            (sym (bit_offset p stage width j odd may.from_one)),
-      )
+  follows_next group j x is follows = grind arith
 
   next_follows : (group : Group) (x : List ℤ) → IsGroupOf p stage before group
       → IsSuccessor p stage (node_at before group.from) x
       → (j : ℕ) × (j < width) × FollowsBy width before group j x
   next_follows group x is (rank, may, at) =
       let j : ℕ = rank + p.k - stage - 1 in
-      let same : rank ≡ stage + 1 + j - p.k = omega (arith, may.late) in
-      let offset : offset_after stage rank ≡ offset_of width j =
-      ap (offset_after stage) same ∙ bit_offset p stage width j odd (omega (arith, same, may.from_one)) in (
-        j,
-        omega (arith, may.early, odd),
-        record {
-          offset = (is.permitted j).1 (subst (IsPermitted p stage (node_at before group.from)) same may);
-          is = at ∙ ap (shifted (node_at before group.from)) offset;
-        },
-      )
+      let same : rank ≡ stage + 1 + j - p.k = omega (arith, may.late) in grind arith
 
   -- of one group a window leads on as the front window does
   pub of_group : (group : Group) (m : ℕ) (window x : List ℤ) → LeadOn width → AreWindows width before

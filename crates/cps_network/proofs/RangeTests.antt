@@ -28,9 +28,8 @@ module _ {F : Type 0} {g : Mut F (ℕ × Unit {0}) Bool} (P : ℕ → Type 0) (s
 
   at_each : AllWithin P numbers 0 (length numbers) → (k : ℕ) → s.start ≤ k → k < s.end → P k
   at_each h k a b =
-      let at : get_or numbers (k - s.start) 0 ≡ k =
-      omega (arith, get_or-range_with_len s.start (s.end - s.start) (k - s.start) 0 (omega arith)) in
-      subst P at (h (k - s.start) 0 (omega arith) (omega (arith, length-range_with_len s.start (s.end - s.start))))
+      let at : get_or numbers (k - s.start) 0 ≡ k = grind (arith, get_or-range_with_len) in
+      grind (arith, length-range_with_len)
 
   pub each_in_range : ChecksAll nat_range_steps g s f r u → IsTrue r → (k : ℕ) → s.start ≤ k → k < s.end → P k
   each_in_range ran = by r (cases_from_all u f r P (λ x. ⊤) ran (YieldsList-from_range s.start s.end _ refl refl)

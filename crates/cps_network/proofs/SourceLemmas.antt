@@ -1,11 +1,10 @@
 -- The windows that lead to one window stand side by side.
-use Rattle.std.proofs.Common.{◌≡◌, ℕ, Bool, true, false, [], ◌-◌, ◌<◌, ◌≤◌, List, length, drop, take, refl, arith, ◌∙◌}
-use Rattle.std.proofs.Common.{sym, ap, inl, inr, subst}
-use Rattle.std.proofs.lemmas.Bool.{cases_lt}
+use Rattle.std.proofs.Common.{rules, ◌≡◌, ℕ, Bool, true, ◌-◌, ◌<◌, ◌≤◌, List, length, drop, take, refl, arith, ◌∙◌, sym}
+use Rattle.std.proofs.Common.{ap, inl, inr, subst}
 use Rattle.std.proofs.lemmas.List.{get_or_default}
-use Rattle.std.specs.Prelude.{ℤ, ◌⊎◌, ◌↔◌, IsTrue, slice_index_or}
+use Rattle.std.specs.Prelude.{ℤ, ◌⊎◌, ◌↔◌, IsTrue}
 use Rattle.std.proofs.lemmas.Bool.Decides.{nat_tests}
-use Rattle.std.proofs.lemmas.Cmp.{lists_total, int_cmp_total, tied_itself}
+use Rattle.std.proofs.lemmas.Cmp.{lists_total, int_cmp_total}
 use Rattle.std.specs.declared.cmp.Ordering.{Ordering}
 use Rattle.std.specs.declared.cmp.Ordering.TheVariants.{Less, Equal, Greater}
 use Rattle.std.specs.Ordering.{int_cmp, int_eq, is_eq, is_lt, ordering_then}
@@ -29,7 +28,7 @@ tie_is_same xs ys e = (slice_eq-Decides Decides-int_eq xs ys (pointwise int_eq x
 -- the tails of ascending windows do not fall
 tails_rise : (x y : List ℤ) → window_cmp x y ≡ Less → (slice_cmp int_cmp (drop 1 x) (drop 1 y) ≡ Less)
     ⊎ (drop 1 x ≡ drop 1 y)
-tails_rise x y h = go (slice_cmp int_cmp (drop 1 x) (drop 1 y)) refl h
+tails_rise x y h = grind (arith, go)
   where
     go : (o : Ordering) → slice_cmp int_cmp (drop 1 x) (drop 1 y) ≡ o
         → ordering_then o (slice_cmp int_cmp (take 1 x) (take 1 y)) ≡ Less
@@ -41,23 +40,19 @@ tails_rise x y h = go (slice_cmp int_cmp (drop 1 x) (drop 1 y)) refl h
 -- what stands before a window that is below, is below
 pub IsBelow-earlier : (x y z : List ℤ) → window_cmp x y ≡ Less → IsBelow y z → IsBelow x z
 IsBelow-earlier x y z up below = elim (tails_rise x y up) [
-  | inl less ↦ total.trans (drop 1 x) (drop 1 y) (take (length z - 1) z) less below
-  | inr same ↦ subst (λ (t : List ℤ). slice_cmp int_cmp t (take (length z - 1) z) ≡ Less) (sym same) below
+  | inl less ↦ grind (arith, total.trans)
+  | inr same ↦ cc
 ]
 
 -- a window that leads to another is not below it
 pub not_below : (x z : List ℤ) → TailMeetsHead x z → IsBelow x z → ⊥
-not_below x z leads below =
-    let tie : slice_cmp int_cmp (drop 1 x) (take (length z - 1) z) ≡ Equal =
-    subst (λ (t : List ℤ). slice_cmp int_cmp t (take (length z - 1) z) ≡ Equal) (sym leads)
-    (tied_itself total (take (length z - 1) z)) in
-    cc
+not_below x z leads below = grind (arith, total)
 
 -- nothing after a window that is past those that lead to another leads to it
 pub none_after : (x y z : List ℤ) → window_cmp x y ≡ Less → (IsBelow x z → ⊥) → (TailMeetsHead x z → ⊥)
     → TailMeetsHead y z → ⊥
 none_after x y z up not_under not_leads leads = elim (tails_rise x y up) [
-  | inl less ↦ not_under (subst (λ (t : List ℤ). slice_cmp int_cmp (drop 1 x) t ≡ Less) leads less)
+  | inl less ↦ grind arith
   | inr same ↦ not_leads (same ∙ leads)
 ]
 
@@ -69,37 +64,20 @@ abbrev pub is_below : List ℤ → List ℤ → Bool
 is_below node window = is_lt (slice_cmp int_cmp (drop 1 window) (take (length node - 1) node))
 
 pub IsBelow-true : (node window : List ℤ) → is_below node window ≡ true → IsBelow window node
-IsBelow-true node window passes = less (slice_cmp int_cmp (drop 1 window) (take (length node - 1) node)) passes
-  where
-    less : (o : Ordering) → is_lt o ≡ true → o ≡ Less
-    less Less e = refl
-    less Equal e = absurd cc
-    less Greater e = absurd cc
+IsBelow-true node window passes = grind arith
 
 pub is_below-from : (node window : List ℤ) (answer : Bool) → (IsTrue answer ↔ IsBelow window node)
     → answer ≡ is_below node window
-is_below-from node window answer says =
-    same answer (slice_cmp int_cmp (drop 1 window) (take (length node - 1) node)) says
-  where
-    same : (b : Bool) (o : Ordering) → (IsTrue b ↔ (o ≡ Less)) → b ≡ is_lt o
-    same b Less h = h.1 refl
-    same true Equal h = absurd (let less = h.0 refl in cc)
-    same false Equal h = refl
-    same true Greater h = absurd (let less = h.0 refl in cc)
-    same false Greater h = refl
+is_below-from node window answer says = grind arith
 
 -- of ascending windows those below a node stand before the others
 pub IsPartitionedBy-is_below : (before : List (List ℤ)) (node : List ℤ) → IsAscending before
     → IsPartitionedBy (is_below node) before
 IsPartitionedBy-is_below before node up i j d le within passes = elim (same_or_before i j le) [
-  | inl same ↦ subst (λ (q : ℕ). is_below node (slice_index_or before q d) ≡ true) (sym same) passes
+  | inl same ↦ cc
   | inr less ↦
-      let later : IsBelow (node_at before j) node = subst (λ (x : List ℤ). IsBelow x node)
-      (get_or_default before j d [] within) (IsBelow-true node (slice_index_or before j d) passes) in
-      let earlier : IsBelow (node_at before i) node =
-      IsBelow-earlier (node_at before i) (node_at before j) node (up i j less within) later in
-      subst (λ (x : List ℤ). is_below node x ≡ true) (get_or_default before i [] d (omega (arith, less, within)))
-      (ap is_lt earlier)
+      let later : IsBelow (node_at before j) node = grind (arith, get_or_default) in
+      let earlier : IsBelow (node_at before i) node = search (rules, IsBelow-earlier) in grind (arith, get_or_default)
 ]
 
 -- the range is that of the windows that lead to the node
@@ -111,7 +89,7 @@ pub exact : (before : List (List ℤ)) (node : List ℤ) (from to : ℕ) → IsA
     → (to < length before → TailMeetsHead (node_at before to) node → ⊥)
     → (i : ℕ) → i < length before → TailMeetsHead (node_at before i) node ↔ ((from ≤ i) × (i < to))
 exact before node from to up below above ordered leads stop i within =
-    (λ here. (start here (cases_lt i from), end here (cases_lt i to)), λ range. leads i range.0 range.1)
+    (grind (arith, start, end), λ range. leads i range.0 range.1)
   where
     start : TailMeetsHead (node_at before i) node → (i < from) ⊎ (from ≤ i) → from ≤ i
     start here (inl lt) = absurd (not_below (node_at before i) node here (below i lt))
@@ -133,12 +111,11 @@ below_before before node place up is i lt =
     let last : IsBelow (node_at before (place - 1)) node =
     elim (tails_rise (node_at before (place - 1)) (node_at before place)
     (up (place - 1) place (omega (arith, lt)) is.within)) [
-      | inl less ↦ subst (λ (t : List ℤ). slice_cmp int_cmp (drop 1 (node_at before (place - 1))) t ≡ Less)
-          is.leads less
-      | inr same ↦ absurd (is.first (omega (arith, lt)) (same ∙ is.leads))
+      | inl less ↦ cc
+      | inr same ↦ grind arith
     ] in
     elim (same_or_before i (place - 1) (omega (arith, lt))) [
-      | inl e ↦ subst (λ (q : ℕ). IsBelow (node_at before q) node) (sym e) last
+      | inl e ↦ cc
       | inr less ↦ IsBelow-earlier (node_at before i) (node_at before (place - 1)) node
           (up i (place - 1) less (omega (arith, is.within))) last
     ]
@@ -146,8 +123,6 @@ below_before before node place up is i lt =
 pub none_from : (before : List (List ℤ)) (node : List ℤ) (place : ℕ) → IsAscending before → BeginAt before node place
     → (i : ℕ) → place ≤ i → i < length before → IsBelow (node_at before i) node → ⊥
 none_from before node place up is i le within below = elim (same_or_before place i le) [
-  | inl e ↦ not_below (node_at before place) node is.leads
-      (subst (λ (q : ℕ). IsBelow (node_at before q) node) (sym e) below)
-  | inr less ↦ not_below (node_at before place) node is.leads
-      (IsBelow-earlier (node_at before place) (node_at before i) node (up place i less within) below)
+  | inl e ↦ grind (arith, not_below)
+  | inr less ↦ search (rules, not_below, IsBelow-earlier, less)
 ]

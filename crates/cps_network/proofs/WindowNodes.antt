@@ -1,4 +1,5 @@
 -- Legal prefixes of one stage and window place the same ranks.
+use Rattle.std.proofs.Common.{arith}
 use Rattle.std.proofs.Common.{ℕ, List, sym, ap, subst, ◌∙◌}
 use Rattle.std.specs.Prelude.{◌≡◌, pos}
 use Rattle.cps_nodes.specs.Windows.{IsPlaced}
@@ -18,8 +19,4 @@ module _ (p : Problem) (net : IsWindowNetwork p) (tells : TellTheirRanks p) wher
       (tells os x m one).0 (subst (λ (n : Node). IsPlaced n.1 (pos n.0) (pos x)) e ((tells rs x l one).1 i))
 
   pub windows_tell_nodes : WindowsTellNodes p
-  windows_tell_nodes rs os l m e = record {
-    stage = ap (λ (n : Node). n.0) e;
-    placed = λ x. (placed_alike rs os l m e x, placed_alike os rs m l (sym e) x);
-    latest = sym (net.newest_is rs l) ∙ ap latest e ∙ net.newest_is os m;
-  }
+  windows_tell_nodes rs os l m e = grind (arith, placed_alike)

@@ -56,9 +56,8 @@ pub fn windows_tell_their_ranks<const W: usize>(problem: &Problem)
     requires { W ≡ 2 * problem.now.k + 1 }
     ensures { TellTheirRanks problem.now }
 {
-    // k is at most 3, each flight was passed at most k times, and each pair is of ranks up to `MOST_WAITING`.
+    // k is at most 3.
     let _near = problem.head();
-    let _in_range = problem.pairs().all_before(1, 0);
     window_laws::<W>();
 }
 

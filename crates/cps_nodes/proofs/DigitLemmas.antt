@@ -1,7 +1,7 @@
 -- Offsets as digits of numbers: the tail and the head of a window, its order, and one landing more.
-use Rattle.std.proofs.Common.{◌≡◌, ℕ, zero, suc, ◌+◌, ◌-◌, ◌*◌, ◌/◌, ◌%◌, ◌^◌, ◌<◌, ◌≤◌, List, [], ◌∷◌, ◌++◌, drop}
-use Rattle.std.proofs.Common.{take, replicate, refl, ap, ap₂, sym, subst, ◌∙◌, arith, mul-le-mul_right, suc-mul}
-use Rattle.std.proofs.Common.{shr-shr, mod-lt, pow_pos, mod-eq_of_lt, pow-add}
+use Rattle.std.proofs.Common.{rules, ◌≡◌, ℕ, zero, suc, ◌+◌, ◌-◌, ◌*◌, ◌/◌, ◌%◌, ◌^◌, ◌<◌, List, ◌∷◌, ◌++◌, drop, take}
+use Rattle.std.proofs.Common.{replicate, refl, ap, ap₂, sym, subst, ◌∙◌, arith, shr-shr, mod-lt, pow_pos, mod-eq_of_lt}
+use Rattle.std.proofs.Common.{[], pow-add}
 use Rattle.std.specs.Prelude.{ℤ, pos, negsuc, nat_abs, ◌-ℤ◌, ◌<ℤ◌, ◌≤ℤ◌, ◌==◌}
 use Rattle.std.proofs.lemmas.Int.{ints}
 use Rattle.std.proofs.lemmas.Nat.{field_of, shr_below}
@@ -20,9 +20,7 @@ use Rattle.cps_nodes.specs.Digits.{number-offsets_of}
 -- ---- the order
 
 below : (a b p m n : ℕ) → a < b → m < p → a * p + m < b * p + n
-below a b p m n h l =
-    let most : suc a * p ≤ b * p = mul-le-mul_right p h in
-    omega (arith, suc-mul a p)
+below a b p m n h l = grind arith
 
 same_digit : (a b p m n : ℕ) → a ≡ b → nat_cmp m n ≡ nat_cmp (a * p + m) (b * p + n)
 same_digit a b p m n e = by (nat_cmp m n) (ranks m n)
@@ -77,9 +75,7 @@ offsets_of-mod zero more number = refl
 offsets_of-mod (suc width) more number =
     let first : digit_offset (number % 2 ^ (4 * (suc width + more))) width ≡ digit_offset number width =
     ap (λ (e : ℕ). digit_offset (number % 2 ^ (4 * e)) width) (omega arith) ∙ digit_offset-mod width more number in
-    let others : offsets_of width (number % 2 ^ (4 * (suc width + more))) ≡ offsets_of width number =
-    ap (λ (e : ℕ). offsets_of width (number % 2 ^ (4 * e))) (omega arith) ∙ offsets_of-mod width (suc more) number in
-    ap₂ (λ (x : ℤ) (xs : List ℤ). x ∷ xs) first others
+    grind (arith, (offsets_of-mod width (suc more) number))
 
 -- the offsets without the last are those of the digits without the lowest
 offsets_of-push : (width number : ℕ) → offsets_of width (number / 16)
@@ -89,15 +85,14 @@ offsets_of-push (suc width) number =
     let first : digit_offset (number / 16) width ≡ digit_offset number (suc width) =
     ap (λ (d : ℕ). pos (d % 16) -ℤ pos 8) (
     shr-shr number 4 (4 * width) ∙ ap (λ (e : ℕ). number / 2 ^ e) (omega arith)) in
-    ap₂ (λ (x : ℤ) (xs : List ℤ). x ∷ xs) first (offsets_of-push width number)
+    grind (arith, (offsets_of-push width number))
 
 pub tail-offsets_of : (width number : ℕ) → 0 < width
     → drop 1 (offsets_of width number) ≡ offsets_of (width - 1) (number % 2 ^ (4 * (width - 1)))
 tail-offsets_of zero number some = absurd (omega arith)
 tail-offsets_of (suc width) number some =
     let all : offsets_of width (number % 2 ^ (4 * width)) ≡ offsets_of width number =
-    ap (λ (e : ℕ). offsets_of width (number % 2 ^ (4 * e))) (omega arith) ∙ offsets_of-mod width 0 number in
-    sym all ∙ ap (λ (e : ℕ). offsets_of e (number % 2 ^ (4 * e))) (omega arith)
+    ap (λ (e : ℕ). offsets_of width (number % 2 ^ (4 * e))) (omega arith) ∙ offsets_of-mod width 0 number in grind arith
 
 pub head-offsets_of : (width number : ℕ) → 0 < width
     → take (width - 1) (offsets_of width number) ≡ offsets_of (width - 1) (number / 16)
@@ -106,8 +101,7 @@ head-offsets_of (suc width) number some =
     let front : offsets_of width (number / 16) ≡ take width (offsets_of (suc width) number) =
     sym (take-append_seam (offsets_of width (number / 16)) (digit_offset number 0 ∷ []))
     ∙ ap₂ (λ (n : ℕ) (xs : List ℤ). take n xs) (length-offsets_of width (number / 16)) (offsets_of-push width number) in
-    ap (λ (n : ℕ). take n (offsets_of (suc width) number)) (omega arith) ∙ sym front
-    ∙ ap (λ (n : ℕ). offsets_of n (number / 16)) (omega arith)
+    grind arith
 
 pub head_lt : (width number : ℕ) → 0 < width → number < 2 ^ (4 * width) → number / 16 < 2 ^ (4 * (width - 1))
 head_lt width number some few =
@@ -125,8 +119,7 @@ pub offset_at-offsets_of : (width number i : ℕ) → i < width
     → offset_at (offsets_of width number) i ≡ digit_offset number (width - 1 - i)
 offset_at-offsets_of zero number i lt = absurd (omega arith)
 offset_at-offsets_of (suc width) number zero lt = ap (digit_offset number) (omega arith)
-offset_at-offsets_of (suc width) number (suc i) lt =
-    offset_at-offsets_of width number i (omega arith) ∙ ap (digit_offset number) (omega arith)
+offset_at-offsets_of (suc width) number (suc i) lt = grind (arith, (offset_at-offsets_of width number i (omega arith)))
 
 -- ---- one landing more
 
@@ -171,8 +164,7 @@ eights (suc (suc (suc (suc (suc (suc (suc (suc i)))))))) lt = absurd (omega arit
 
 zeros : (width : ℕ) → width < 9 → offsets_of width 2290649224 ≡ replicate width (pos 0)
 zeros zero few = refl
-zeros (suc width) few =
-    ap₂ (λ (d : ℕ) (xs : List ℤ). (pos d -ℤ pos 8) ∷ xs) (eights width (omega arith)) (zeros width (omega arith))
+zeros (suc width) few = grind (arith, eights, (zeros width (omega arith)))
 
 pub offsets_of-source : (width : ℕ) → width < 9
     → offsets_of width (2290649224 % 2 ^ (4 * width)) ≡ replicate width (pos 0)
@@ -189,30 +181,11 @@ pointwise-offsets_of width m n l r =
     ∙ ap is_eq (slice_cmp-offsets_of width m n ∙ ap₂ nat_cmp (mod-eq_of_lt l) (mod-eq_of_lt r))
     ∙ unsigned_tied m n
 
-int_cmp_digits : (a b : ℕ) → int_cmp (pos a -ℤ pos 8) (pos b -ℤ pos 8) ≡ nat_cmp a b
-int_cmp_digits a b = by (int_cmp (pos a -ℤ pos 8) (pos b -ℤ pos 8)) (int_ranks (pos a -ℤ pos 8) (pos b -ℤ pos 8))
-  where
-    by : (o : Ordering)
-        → MatchOrdering o ((pos a -ℤ pos 8) <ℤ (pos b -ℤ pos 8)) ((pos a -ℤ pos 8) ≡ (pos b -ℤ pos 8))
-        ((pos b -ℤ pos 8) <ℤ (pos a -ℤ pos 8))
-        → o ≡ nat_cmp a b
-    by Less h = nat_cmp_is a b Less (omega (arith, ints, h))
-    by Equal h = nat_cmp_is a b Equal (omega (arith, ints, h))
-    by Greater h = nat_cmp_is a b Greater (omega (arith, ints, h))
-
-then_Equal : (o : Ordering) → ordering_then o Equal ≡ o
-then_Equal Less = refl
-then_Equal Equal = refl
-then_Equal Greater = refl
-
 -- the tails decide before the first digits
 keys_compare : (a b c d : ℕ) → c < 16 → d < 16
     → ordering_then (nat_cmp a b) (ordering_then (int_cmp (pos c -ℤ pos 8) (pos d -ℤ pos 8)) Equal) ≡ nat_cmp
     (a * 16 + c) (b * 16 + d)
-keys_compare a b c d l r =
-    ap₂ ordering_then (sym (int_cmp_digits a b)) (then_Equal (int_cmp (pos c -ℤ pos 8) (pos d -ℤ pos 8))
-    ∙ int_cmp_digits c d)
-    ∙ digits_compare a b 16 c d l r
+keys_compare a b c d l r = search rules
 
 pub window_cmp-offsets_of : (width m n : ℕ) → 0 < width → m < 2 ^ (4 * width) → n < 2 ^ (4 * width)
     → window_cmp (offsets_of width m) (offsets_of width n) ≡ nat_cmp (order_key width m) (order_key width n)

@@ -1,7 +1,7 @@
 -- A list of landings goes on exactly where its window accepts the next one.
-use Rattle.std.proofs.Common.{◌≡◌, ℕ, ◌+◌, ◌-◌, ◌/◌, ◌*◌, ◌<◌, ◌≤◌, List, [], ◌∷◌, ◌++◌, length, drop, get_or, refl}
-use Rattle.std.proofs.Common.{arith, length-append, replicate, append_assoc, ◌∙◌, sym, ap, ap₂, inl, inr, subst, zero}
-use Rattle.std.proofs.Common.{suc}
+use Rattle.std.proofs.Common.{rules, ◌≡◌, ℕ, ◌+◌, ◌-◌, ◌/◌, ◌*◌, ◌<◌, ◌≤◌, List, ◌∷◌, ◌++◌, length, drop, get_or, refl}
+use Rattle.std.proofs.Common.{arith, length-append, replicate, append_assoc, ◌∙◌, sym, ap, inl, inr, subst, zero, suc}
+use Rattle.std.proofs.Common.{[]}
 use Rattle.std.specs.Prelude.{ℤ, pos, ◌+ℤ◌, ◌-ℤ◌, ◌≤ℤ◌, ◌⊎◌, Contains}
 use Rattle.std.proofs.lemmas.Int.{ints}
 use Rattle.std.proofs.lemmas.List.{get_or_default, get_or_append_left, get_or_push, length-replicate, drop-append-le}
@@ -16,10 +16,8 @@ use Rattle.cps_nodes.proofs.PrefixLemmas.{length-window_of, offset_at-window_of_
 
 offsets_from-push : (place : ℕ) (ranks : List ℕ) (r : ℕ)
     → offsets_from place (ranks ++ r ∷ []) ≡ offsets_from place ranks ++ (pos r -ℤ pos (place + length ranks)) ∷ []
-offsets_from-push place [] r = ap (λ (q : ℕ). (pos r -ℤ pos q) ∷ []) (omega arith)
-offsets_from-push place (x ∷ ranks) r =
-    ap (λ (zs : List ℤ). (pos x -ℤ pos place) ∷ zs) (offsets_from-push (place + 1) ranks r
-    ∙ ap (λ (q : ℕ). offsets_from (place + 1) ranks ++ (pos r -ℤ pos q) ∷ []) (omega arith))
+offsets_from-push place [] r = grind arith
+offsets_from-push place (x ∷ ranks) r = grind (arith, (offsets_from-push (place + 1) ranks r))
 
 -- one landing more shifts the window
 pub window_of-push : (w : ℕ) (ranks : List ℕ) (r : ℕ) → 0 < w
@@ -50,7 +48,7 @@ holds_landing : (w : ℕ) (ranks : List ℕ) (j : ℕ) (rank : ℤ) → j < leng
     → rank ≡ pos (get_or ranks j 0) -ℤ pos (1 + length ranks) +ℤ pos w → HoldsRank (window_of w ranks) rank
 holds_landing w ranks j rank lt late e =
     let at : offset_at (window_of w ranks) (j + w - length ranks) ≡ pos (get_or ranks j 0) -ℤ pos (1 + j) =
-    offset_at-window_of w ranks (j + w - length ranks) j (omega arith) lt in
+    grind (arith, offset_at-window_of) in
     (j + w - length ranks, omega (arith, length-window_of w ranks), omega (arith, ints))
 
 -- what a window holds is a landing or a place before the first
@@ -60,13 +58,10 @@ landing_held : (w : ℕ) (ranks : List ℕ) (rank : ℤ) → HoldsRank (window_o
 landing_held w ranks rank (i, lt, e) =
     let len : length (window_of w ranks) ≡ w = length-window_of w ranks in
     elim (cases_lt (length ranks + i) w) [
-      | inl early ↦
-          let z : offset_at (window_of w ranks) i ≡ pos 0 = offset_at-window_of_early w ranks i early in
-          inl (omega (arith, ints, e))
+      | inl early ↦ grind (arith, offset_at-window_of_early)
       | inr late ↦
           let at : offset_at (window_of w ranks) i ≡ pos (get_or ranks (length ranks + i - w) 0) -ℤ pos
-          (1 + (length ranks + i - w)) =
-          offset_at-window_of w ranks i (length ranks + i - w) (omega arith) (omega (arith, lt)) in
+          (1 + (length ranks + i - w)) = grind (arith, offset_at-window_of) in
           inr (length ranks + i - w, omega (arith, lt), omega (arith, ints, e))
     ]
 
@@ -80,10 +75,8 @@ Accepts-from_KeepsShift most w ranks r odd is =
     let last : get_or (ranks ++ r ∷ []) (length ranks) 0 ≡ r = get_or_push ranks r 0 (length ranks) refl in
     record {
       fresh = λ has. elim (landing_held w ranks _ has) [
-        | inl early ↦ omega (arith, ints, is.positive (length ranks) (omega arith))
-        | inr (j, lt, e) ↦
-            let old : get_or (ranks ++ r ∷ []) j 0 ≡ get_or ranks j 0 = get_or_append_left ranks (r ∷ []) 0 j lt in
-            is.differ j (length ranks) lt (omega arith) (omega (arith, ints, e))
+        | inl early ↦ grind arith
+        | inr (j, lt, e) ↦ grind (arith, get_or_append_left)
       ];
       due = subst (λ (zs : List ℤ). HoldsRank zs (pos (length (window_of w ranks) / 2)))
           (window_of-push w ranks r (omega arith)) (
@@ -106,8 +99,7 @@ Accepts-from_KeepsShift most w ranks r odd is =
 not_zero : (most w : ℕ) (ranks : List ℕ) (r : ℕ) → w ≡ 2 * most + 1 → length ranks + 1 ≤ r + most
     → Accepts (window_of w ranks) (pos r -ℤ pos (1 + length ranks)) → 0 < r
 not_zero most w ranks zero odd late can =
-    let z : offset_at (window_of w ranks) (w - 1 - length ranks) ≡ pos 0 =
-    offset_at-window_of_early w ranks (w - 1 - length ranks) (omega arith) in
+    let z : offset_at (window_of w ranks) (w - 1 - length ranks) ≡ pos 0 = grind (arith, offset_at-window_of_early) in
     absurd (can.fresh (
       w - 1 - length ranks,
       omega (arith, length-window_of w ranks),
@@ -125,18 +117,9 @@ KeepsShift-from_Accepts most w ranks r odd is early late can =
     let some : 0 < r = not_zero most w ranks r odd late can in
     let longer : length (ranks ++ r ∷ []) ≡ length ranks + 1 = length-append ranks (r ∷ []) in
     record {
-      positive = λ i lt. elim (cases_lt i (length ranks)) [
-        | inr past ↦ rw (get_or_push ranks r 0 i (omega arith)) some
-        | inl old ↦ rw (get_or_append_left ranks (r ∷ []) 0 i old) (is.positive i old)
-      ];
-      early = λ i lt. elim (cases_lt i (length ranks)) [
-        | inr past ↦ rw (get_or_push ranks r 0 i (omega arith)) (omega arith)
-        | inl old ↦ rw (get_or_append_left ranks (r ∷ []) 0 i old) (is.early i old)
-      ];
-      late = λ i lt. elim (cases_lt i (length ranks)) [
-        | inr past ↦ rw (get_or_push ranks r 0 i (omega arith)) (omega arith)
-        | inl old ↦ rw (get_or_append_left ranks (r ∷ []) 0 i old) (is.late i old)
-      ];
+      positive = grind (arith, cases_lt, get_or_push, get_or_append_left);
+      early = grind (arith, get_or_push, get_or_append_left, is.early);
+      late = grind (arith, get_or_push, get_or_append_left, is.late);
       differ = λ i j lt within same.
           let old : get_or (ranks ++ r ∷ []) i 0 ≡ get_or ranks i 0 =
           get_or_append_left ranks (r ∷ []) 0 i (omega arith) in
@@ -147,13 +130,10 @@ KeepsShift-from_Accepts most w ranks r odd is early late can =
                   | inl far ↦ omega (arith, is.early i (omega arith))
                   | inr near ↦ can.fresh (holds_landing w ranks i _ (omega arith) near (omega (arith, ints)))
                 ]
-            | inl before ↦
-                let second : get_or (ranks ++ r ∷ []) j 0 ≡ get_or ranks j 0 =
-                get_or_append_left ranks (r ∷ []) 0 j before in
-                is.differ i j lt before (omega arith)
+            | inl before ↦ grind (arith, get_or_append_left)
           ];
       due = λ rank positive passed. elim (cases_lt (rank + most) (length ranks + 1)) [
-        | inl long_due ↦ Contains-append_left ranks (r ∷ []) rank (is.due rank positive (omega arith))
+        | inl long_due ↦ grind (arith, Contains-append_left)
         | inr now_due ↦
             let held : HoldsRank (window_of w (ranks ++ r ∷ [])) (pos (length (window_of w ranks) / 2)) =
             subst (λ (zs : List ℤ). HoldsRank zs (pos (length (window_of w ranks) / 2)))
@@ -174,26 +154,18 @@ KeepsShift-front most ranks r is =
     let longer : length (ranks ++ r ∷ []) ≡ length ranks + 1 = length-append ranks (r ∷ []) in
     let last : get_or (ranks ++ r ∷ []) (length ranks) 0 ≡ r = get_or_push ranks r 0 (length ranks) refl in
     record {
-      positive = λ i lt. rw (get_or_append_left ranks (r ∷ []) 0 i lt) at (is.positive i (omega arith));
-      differ = λ i j lt within same. is.differ i j lt (omega arith)
-          (get_or_append_left ranks (r ∷ []) 0 i (omega arith) ∙ same
-          ∙ sym (get_or_append_left ranks (r ∷ []) 0 j within));
-      early = λ i lt. rw (get_or_append_left ranks (r ∷ []) 0 i lt) at (is.early i (omega arith));
-      late = λ i lt. rw (get_or_append_left ranks (r ∷ []) 0 i lt) at (is.late i (omega arith));
+      positive = grind (arith, get_or_append_left);
+      differ = grind (arith, get_or_append_left);
+      early = grind (arith, get_or_append_left);
+      late = grind (arith, get_or_append_left);
       due = λ rank some passed. elim (Contains-push_cases ranks r rank (is.due rank some (omega arith))) [
         | inl old ↦ old
-        | inr new ↦ absurd (omega (arith, new, is.late (length ranks) (omega arith)))
+        | inr new ↦ grind arith
       ];
     }
 
 pub KeepsShift-none : (most : ℕ) → RanksKeepShift most []
-KeepsShift-none most = record {
-  positive = λ i lt. absurd (omega arith);
-  differ = λ i j lt within same. absurd (omega (arith, within));
-  early = λ i lt. absurd (omega arith);
-  late = λ i lt. absurd (omega arith);
-  due = λ rank some passed. absurd (omega (arith, some, passed));
-}
+KeepsShift-none most = grind arith
 
 -- the offset of the last rank
 pub offset_at-window_of_last : (w : ℕ) (ranks : List ℕ) (r : ℕ) → 0 < w
@@ -214,11 +186,10 @@ pub accepted_ranks : (w : ℕ) (xs : List ℤ) (ranks : List ℕ) (rank : ℕ) (
     → Accepts xs o → RanksKeepShift (w / 2) (ranks ++ rank ∷ []) × (shifted xs o ≡ window_of w (ranks ++ rank ∷ []))
 accepted_ranks w xs ranks rank o wide low high is at e can =
     let turned : o ≡ pos rank -ℤ pos (1 + length ranks) = e ∙ offset_turned (length ranks) rank in
-    let here : Accepts (window_of w ranks) (pos rank -ℤ pos (1 + length ranks)) =
-    subst (λ (z : ℤ). Accepts (window_of w ranks) z) turned (subst (λ (ys : List ℤ). Accepts ys o) at can) in (
+    let here : Accepts (window_of w ranks) (pos rank -ℤ pos (1 + length ranks)) = grind arith in (
       KeepsShift-from_Accepts (w / 2) w ranks rank (omega (arith, wide)) is (omega (arith, ints))
           (omega (arith, ints)) here,
-      ap₂ shifted at turned ∙ sym (window_of-push w ranks rank (omega (arith, wide))),
+      grind (arith, window_of-push),
     )
 
 -- a list that goes on is accepted
@@ -228,8 +199,7 @@ pub ranks_accepted : (w : ℕ) (xs : List ℤ) (ranks : List ℕ) (rank : ℕ) (
 ranks_accepted w xs ranks rank o wide at e is =
     let turned : o ≡ pos rank -ℤ pos (1 + length ranks) = e ∙ offset_turned (length ranks) rank in
     let here : Accepts (window_of w ranks) (pos rank -ℤ pos (1 + length ranks)) =
-    Accepts-from_KeepsShift (w / 2) w ranks rank (omega (arith, wide)) is in
-    subst (λ (ys : List ℤ). Accepts ys o) (sym at) (subst (λ (z : ℤ). Accepts (window_of w ranks) z) (sym turned) here)
+    Accepts-from_KeepsShift (w / 2) w ranks rank (omega (arith, wide)) is in grind arith
 
 -- windows of a width follow the lists of ranks
 pub follow : (w : ℕ) → IsWidth w → FollowRanks w
@@ -242,24 +212,16 @@ follow w wide = record {
         get_or_push ranks rank 0 (length ranks) refl in (
           KeepsShift-front (w / 2) ranks rank is,
           record {
-            early = omega (arith, is.early (length ranks) (omega arith));
-            late = omega (arith, is.late (length ranks) (omega arith));
-            accepted = ranks_accepted w (window_of w ranks) ranks rank
-                (offset_after (length ranks) rank) wide refl refl is;
+            early = omega arith;
+            late = omega arith;
+            accepted = search (rules, ranks_accepted);
           },
         ),
     λ (is, may). (accepted_ranks w (window_of w ranks) ranks rank (offset_after (length ranks) rank) wide
         (omega (arith, ints, may.late)) (omega (arith, ints, may.early)) is refl refl may.accepted).0,
   );
-  shifts = λ ranks rank. window_of-push w ranks rank (omega (arith, wide))
-      ∙ ap (shifted (window_of w ranks)) (sym (offset_turned (length ranks) rank));
+  shifts = grind (arith, window_of-push);
   wide = λ ranks. length-window_of w ranks;
-  last = λ ranks rank.
-      let at : offset_at (window_of w (ranks ++ rank ∷ [])) (w - 1) ≡ pos rank -ℤ pos (1 + length ranks) =
-      offset_at-window_of_last w ranks rank (omega (arith, wide)) in
-      omega (arith, ints, at);
-  places = λ ranks rank is. (
-    HasLanded-from_IsPlaced (w / 2) w ranks rank (omega (arith, wide)) is,
-    IsPlaced-from_HasLanded (w / 2) w ranks rank (omega (arith, wide)) is,
-  );
+  last = grind (arith, offset_at-window_of_last);
+  places = grind (arith, HasLanded-from_IsPlaced, IsPlaced-from_HasLanded);
 }

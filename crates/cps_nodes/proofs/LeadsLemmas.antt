@@ -1,29 +1,20 @@
 -- One window leads to another exactly where some accepted landing extends it to that one.
-use Rattle.std.proofs.Common.{◌≡◌, ℕ, ◌+◌, ◌-◌, ◌/◌, ◌<◌, List, [], ◌∷◌, ◌++◌, length, drop, take, get_or, refl, arith}
-use Rattle.std.proofs.Common.{length-append, length-drop, ◌∙◌, sym, ap, subst, zero, suc}
+use Rattle.std.proofs.Common.{[], ◌≡◌, ℕ, ◌+◌, ◌-◌, ◌/◌, ◌<◌, List, ◌∷◌, ◌++◌, length, take, get_or, refl, arith}
+use Rattle.std.proofs.Common.{length-append, ◌∙◌, sym, ap, zero, suc}
 use Rattle.std.specs.Prelude.{ℤ, pos, ◌+ℤ◌, ◌≤ℤ◌}
 use Rattle.std.proofs.lemmas.Int.{ints}
 use Rattle.std.proofs.lemmas.List.{get_or-drop, get_or-take}
-use Rattle.cps_nodes.specs.Windows.{IsWindow, HoldsRank, offset_at, shifted}
+use Rattle.cps_nodes.specs.Windows.{IsWindow, HoldsRank, offset_at}
 use Rattle.cps_nodes.specs.Leads.{Extends, TailMeetsHead}
 
 -- a list is its front and its last offset
 front_and_last : (ys : List ℤ) → 0 < length ys → ys ≡ take (length ys - 1) ys ++ offset_at ys (length ys - 1) ∷ []
 front_and_last [] h = absurd (omega arith)
 front_and_last (y ∷ []) h = refl
-front_and_last (y ∷ (z ∷ ys)) h =
-    let rest : z ∷ ys ≡ take (length (z ∷ ys) - 1) (z ∷ ys) ++ offset_at (z ∷ ys) (length (z ∷ ys) - 1) ∷ [] =
-    front_and_last (z ∷ ys) (omega arith) in
-    let n : length (y ∷ (z ∷ ys)) - 1 ≡ suc (length (z ∷ ys) - 1) = omega arith in
-    subst (λ (m : ℕ). y ∷ (z ∷ ys) ≡ take m (y ∷ (z ∷ ys)) ++ offset_at (y ∷ (z ∷ ys)) m ∷ [])
-    (sym n) (ap (λ (zs : List ℤ). y ∷ zs) rest)
+front_and_last (y ∷ (z ∷ ys)) h = grind (arith, (front_and_last (z ∷ ys) (omega arith)))
 
 pub TailMeetsHead-from_Extends : (xs ys : List ℤ) → Extends xs ys → TailMeetsHead xs ys
-TailMeetsHead-from_Extends xs ys (o, within, can, e) =
-    let n : length (shifted xs o) - 1 ≡ length (drop 1 xs) =
-    omega (arith, length-append (drop 1 xs) (o ∷ []), length-drop 1 xs) in
-    subst (λ (zs : List ℤ). drop 1 xs ≡ take (length zs - 1) zs) (sym e)
-    (subst (λ (m : ℕ). drop 1 xs ≡ take m (drop 1 xs ++ o ∷ [])) (sym n) (sym (whole (drop 1 xs) (o ∷ []))))
+TailMeetsHead-from_Extends xs ys (o, within, can, e) = grind (arith, length-append, whole)
   where
     whole : (us vs : List ℤ) → take (length us) (us ++ vs) ≡ us
     whole [] vs = refl
@@ -34,22 +25,8 @@ pub Extends-from_TailMeetsHead : (w : ℕ) (xs ys : List ℤ) → IsWindow w xs 
 Extends-from_TailMeetsHead w xs ys a b leads =
     let o : ℤ = offset_at ys (w - 1) in
     let last : length ys - 1 ≡ w - 1 = ap (λ (n : ℕ). n - 1) b.len in
-    let split : ys ≡ take (length ys - 1) ys ++ offset_at ys (length ys - 1) ∷ [] =
-    front_and_last ys (omega (arith, b.len, b.is_width)) in
-    let is : ys ≡ shifted xs (offset_at ys (w - 1)) =
-    split ∙ ap (λ (zs : List ℤ). zs ++ offset_at ys (length ys - 1) ∷ []) (sym leads)
-    ∙ ap (λ (n : ℕ). drop 1 xs ++ offset_at ys n ∷ []) last in
-    let low : pos 0 ≤ℤ (offset_at ys (w - 1) +ℤ pos (w / 2)) = b.low (w - 1) (omega (arith, b.is_width)) in
-    let high : offset_at ys (w - 1) ≤ℤ pos (w / 2) = b.high (w - 1) (omega (arith, b.is_width)) in (
-      offset_at ys (w - 1),
-      record { low = rw a.len low; high = rw a.len high },
-      record {
-        fresh = fresh low;
-        due = subst (λ (zs : List ℤ). HoldsRank zs (pos (length xs / 2))) is
-            (subst (λ (n : ℕ). HoldsRank ys (pos (n / 2))) (sym a.len) b.due);
-      },
-      is,
-    )
+    let split : ys ≡ take (length ys - 1) ys ++ offset_at ys (length ys - 1) ∷ [] = grind (arith, front_and_last) in
+    grind (arith, fresh)
   where
     fresh : pos 0 ≤ℤ (offset_at ys (w - 1) +ℤ pos (w / 2)) → HoldsRank xs (pos (length xs) +ℤ offset_at ys (w - 1)) → ⊥
     fresh low (zero, lt, e) = omega (arith, ints, a.high 0 (omega (arith, a.len)), a.len, a.is_width, low)

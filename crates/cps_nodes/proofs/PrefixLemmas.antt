@@ -1,6 +1,6 @@
 -- Laws of the windows of lists of landings.
-use Rattle.std.proofs.Common.{◌≡◌, ℕ, ◌+◌, ◌-◌, ◌/◌, ◌*◌, ◌<◌, ◌≤◌, List, [], ◌∷◌, ◌++◌, length, get_or, refl, arith}
-use Rattle.std.proofs.Common.{length-append, length-drop, replicate, ◌∙◌, ap, inl, inr, zero, suc}
+use Rattle.std.proofs.Common.{[], ◌≡◌, ℕ, ◌+◌, ◌-◌, ◌/◌, ◌*◌, ◌<◌, ◌≤◌, List, ◌∷◌, length, get_or, refl, arith}
+use Rattle.std.proofs.Common.{length-append, length-drop, ◌∙◌, inl, inr, zero, suc}
 use Rattle.std.specs.Prelude.{ℤ, pos, negsuc, ◌-ℤ◌, ◌⊎◌}
 use Rattle.std.proofs.lemmas.Int.{ints}
 use Rattle.std.proofs.lemmas.List.{get_or_default, get_or_append_left, get_or-append_right, get_or-drop}
@@ -17,38 +17,22 @@ pub get_or-offsets_from : (place : ℕ) (ranks : List ℕ) (i : ℕ) → i < len
     → get_or (offsets_from place ranks) i (pos 0) ≡ pos (get_or ranks i 0) -ℤ pos (place + i)
 get_or-offsets_from place [] i h = absurd (omega arith)
 get_or-offsets_from place (r ∷ ranks) zero h = omega (arith, ints)
-get_or-offsets_from place (r ∷ ranks) (suc i) h =
-    get_or-offsets_from (place + 1) ranks i (omega arith)
-    ∙ ap (λ (q : ℕ). pos (get_or ranks i 0) -ℤ pos q) (omega arith)
+get_or-offsets_from place (r ∷ ranks) (suc i) h = grind (arith, (get_or-offsets_from (place + 1) ranks i (omega arith)))
 
 pub length-window_of : (w : ℕ) (ranks : List ℕ) → length (window_of w ranks) ≡ w
-length-window_of w ranks = omega (
-  arith,
-  length-drop (length ranks) (replicate w (pos 0) ++ offsets_from 1 ranks),
-  length-append (replicate w (pos 0)) (offsets_from 1 ranks),
-  length-replicate w (pos 0),
-  length-offsets_from 1 ranks,
-)
+length-window_of w ranks = grind (arith, length-drop, length-append, length-replicate, length-offsets_from)
 
 -- before the first landing stands 0
 pub offset_at-window_of_early : (w : ℕ) (ranks : List ℕ) (i : ℕ) → length ranks + i < w
     → offset_at (window_of w ranks) i ≡ pos 0
 offset_at-window_of_early w ranks i h =
-    let lt : length ranks + i < length (replicate w (pos 0)) = omega (arith, length-replicate w (pos 0)) in
-    get_or-drop (length ranks) (replicate w (pos 0) ++ offsets_from 1 ranks) i (pos 0)
-    ∙ get_or_append_left (replicate w (pos 0)) (offsets_from 1 ranks) (pos 0) (length ranks + i) lt
-    ∙ get_or-replicate w (length ranks + i) (pos 0) (pos 0) h
+    grind (arith, length-replicate, get_or-drop, get_or_append_left, get_or-replicate)
 
 -- and from there on each landing's rank minus its place; j counts landings from 0
 pub offset_at-window_of : (w : ℕ) (ranks : List ℕ) (i j : ℕ) → length ranks + i ≡ j + w → j < length ranks
     → offset_at (window_of w ranks) i ≡ pos (get_or ranks j 0) -ℤ pos (1 + j)
 offset_at-window_of w ranks i j e lt =
-    let at : length ranks + i - w ≡ j = omega arith in
-    get_or-drop (length ranks) (replicate w (pos 0) ++ offsets_from 1 ranks) i (pos 0)
-    ∙ get_or-append_right (replicate w (pos 0)) (offsets_from 1 ranks) w (length ranks + i)
-    (pos 0) (length-replicate w (pos 0)) (omega arith)
-    ∙ ap (λ (q : ℕ). get_or (offsets_from 1 ranks) q (pos 0)) at
-    ∙ get_or-offsets_from 1 ranks j lt
+    grind (arith, get_or-drop, get_or-append_right, length-replicate, get_or-offsets_from)
 
 -- an integer is a natural number, or below 0
 is_natural : (z : ℤ) → ((n : ℕ) × (z ≡ pos n)) ⊎ ((n : ℕ) × (z ≡ negsuc n))
@@ -64,19 +48,13 @@ HasLanded-from_IsPlaced most w ranks rank odd is placed =
     elim placed [
       | inl due ↦
           elim (is_natural rank) [
-            | inl natural ↦ elim (cases_lt 0 natural.0) [
-              | inl some ↦ inr (natural.0, natural.1, is.due natural.0 some (omega (arith, ints, natural.1)))
-              | inr none ↦ inl (omega (arith, ints, natural.1))
-            ]
+            | inl natural ↦ grind arith
             | inr below ↦ inl (omega (arith, ints, below.1))
           ]
       | inr holds ↦
           let i : ℕ = holds.0 in
           elim (cases_lt (length ranks + holds.0) w) [
-            | inl early ↦
-                let zero_at : offset_at (window_of w ranks) holds.0 ≡ pos 0 =
-                offset_at-window_of_early w ranks holds.0 early in
-                inl (omega (arith, ints, holds.2))
+            | inl early ↦ grind (arith, offset_at-window_of_early)
             | inr late ↦
                 let j : ℕ = length ranks + holds.0 - w in
                 let lt : length ranks + holds.0 - w < length ranks = omega (arith, holds.1) in

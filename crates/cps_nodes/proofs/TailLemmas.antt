@@ -1,26 +1,16 @@
 -- The first offset of a window tells nothing of what may land next.
-use Rattle.std.proofs.Common.{◌≡◌, ℕ, ◌+◌, ◌-◌, ◌/◌, List, [], ◌∷◌, ◌++◌, length, drop, get_or, arith, ◌∙◌, sym, ap}
-use Rattle.std.proofs.Common.{inl, inr, subst, zero, suc}
-use Rattle.std.specs.Prelude.{ℤ, pos, ◌+ℤ◌, ◌-ℤ◌, ◌≤ℤ◌, ◌⊎◌}
+use Rattle.std.proofs.Common.{rules, ◌≡◌, ℕ, ◌/◌, List, ◌∷◌, ◌++◌, length, drop, arith, ◌∙◌, sym, ap, inl, inr, zero}
+use Rattle.std.proofs.Common.{[], suc}
+use Rattle.std.specs.Prelude.{ℤ, pos, ◌+ℤ◌, ◌≤ℤ◌, ◌⊎◌}
 use Rattle.std.proofs.lemmas.Int.{ints}
-use Rattle.std.proofs.lemmas.List.{get_or-drop}
 use Rattle.cps_nodes.specs.Leads.{GoOnAlike}
-use Rattle.cps_nodes.specs.Windows.{IsWindow, HoldsRank, Accepts, offset_at, shifted, IsPlaced}
-
--- past the first place both have one offset
-pub offset_at-same_tail : (xs ys : List ℤ) (i : ℕ) → drop 1 xs ≡ drop 1 ys → offset_at xs (1 + i) ≡ offset_at ys (1 + i)
-offset_at-same_tail xs ys i e =
-    sym (get_or-drop 1 xs i (pos 0)) ∙ ap (λ (zs : List ℤ). get_or zs i (pos 0)) e ∙ get_or-drop 1 ys i (pos 0)
+use Rattle.cps_nodes.specs.Windows.{IsWindow, HoldsRank, Accepts, shifted, IsPlaced}
 
 -- a rank that the one holds at a later place, the other holds too
 HoldsRank-same_tail : (w : ℕ) (xs ys : List ℤ) (rank : ℤ) → IsWindow w xs → IsWindow w ys → drop 1 xs ≡ drop 1 ys
     → HoldsRank xs rank → (rank ≤ℤ pos (w / 2)) ⊎ HoldsRank ys rank
-HoldsRank-same_tail w xs ys rank a b e (zero, lt, at) =
-    inl (omega (arith, ints, a.high 0 (omega (arith, a.len))))
-HoldsRank-same_tail w xs ys rank a b e (suc i, lt, at) =
-    let same : offset_at xs (1 + i) ≡ offset_at ys (1 + i) = offset_at-same_tail xs ys i e in
-    let one : offset_at xs (suc i) ≡ offset_at xs (1 + i) = ap (λ (j : ℕ). offset_at xs j) (omega arith) in
-    inr (1 + i, omega (arith, a.len, b.len), omega (arith, ints, at))
+HoldsRank-same_tail w xs ys rank a b e (zero, lt, at) = grind arith
+HoldsRank-same_tail w xs ys rank a b e (suc i, lt, at) = grind arith
 
 pub shifted-same_tail : (xs ys : List ℤ) (o : ℤ) → drop 1 xs ≡ drop 1 ys → shifted xs o ≡ shifted ys o
 shifted-same_tail xs ys o e = ap (λ (zs : List ℤ). zs ++ o ∷ []) e
@@ -31,10 +21,10 @@ Accepts-same_tail w xs ys o a b e low can =
     let same : length xs ≡ length ys = a.len ∙ sym b.len in
     record {
       fresh = λ h. elim (HoldsRank-same_tail w ys xs (pos (length ys) +ℤ o) b a (sym e) h) [
-        | inl early ↦ absurd (omega (arith, ints, b.len, b.is_width, early))
-        | inr holds ↦ can.fresh (subst (λ (n : ℕ). HoldsRank xs (pos n +ℤ o)) (sym same) holds)
+        | inl early ↦ search rules
+        | inr holds ↦ grind arith
       ];
-      due = rw (← same, ← shifted-same_tail xs ys o e) can.due;
+      due = grind arith;
     }
 
 pub IsPlaced-same_tail : (w : ℕ) (xs ys : List ℤ) (stage rank : ℤ) → IsWindow w xs → IsWindow w ys
@@ -46,7 +36,7 @@ IsPlaced-same_tail w xs ys stage rank a b e placed =
       | inl due ↦ inl (rw (← same) due)
       | inr holds ↦ elim (HoldsRank-same_tail w xs ys _ a b e holds) [
         | inl early ↦ inl (omega (arith, ints, a.len, b.len, a.is_width, early))
-        | inr there ↦ inr (subst (λ (n : ℕ). HoldsRank ys (rank -ℤ stage +ℤ pos (n - 1))) same there)
+        | inr there ↦ grind arith
       ]
     ]
 
@@ -54,13 +44,7 @@ IsPlaced-same_tail w xs ys stage rank a b e placed =
 pub GoOnAlike-same_tail : (w : ℕ) (xs ys : List ℤ) → IsWindow w xs → IsWindow w ys → drop 1 xs ≡ drop 1 ys
     → GoOnAlike xs ys
 GoOnAlike-same_tail w xs ys a b e = record {
-  accepts = λ o low.
-      let near : pos 0 ≤ℤ (o +ℤ pos (w / 2)) = rw (← a.len) low in
-      (Accepts-same_tail w xs ys o a b e near, Accepts-same_tail w ys xs o b a (sym e) near);
+  accepts = grind (arith, Accepts-same_tail);
   next = λ o. shifted-same_tail xs ys o e;
-  placed = λ stage rank. (
-    IsPlaced-same_tail w xs ys stage rank a b e,
-    IsPlaced-same_tail w ys xs stage rank b a
-        (sym e),
-  );
+  placed = grind (arith, IsPlaced-same_tail);
 }

@@ -1,9 +1,9 @@
 -- Laws of windows as lists of offsets.
-use Rattle.std.proofs.Common.{◌≡◌, ℕ, ◌+◌, ◌-◌, ◌/◌, ◌<◌, List, [], ◌∷◌, length, drop, get_or, arith, length-append}
-use Rattle.std.proofs.Common.{length-drop, replicate, ◌∙◌, sym, ap, inl, inr, subst}
+use Rattle.std.proofs.Common.{◌≡◌, ℕ, ◌+◌, ◌/◌, ◌<◌, List, length, get_or, arith, length-append, replicate, ◌∙◌, inl}
+use Rattle.std.proofs.Common.{inr}
 use Rattle.std.specs.Prelude.{Bool, true, false, IsTrue, ◌↔◌, ℤ, pos, ◌+ℤ◌, ◌≤ℤ◌}
 use Rattle.std.proofs.lemmas.Int.{ints}
-use Rattle.std.proofs.lemmas.List.{get_or_append_left, get_or-append_right, get_or-drop, get_or-replicate}
+use Rattle.std.proofs.lemmas.List.{get_or_append_left, get_or-append_right, get_or-replicate}
 use Rattle.std.proofs.lemmas.List.{length-replicate}
 use Rattle.std.proofs.lemmas.Bool.{cases_lt}
 use Rattle.cps_nodes.specs.Windows.{IsWidth, IsWindow, HoldsRank, offset_at, shifted}
@@ -15,11 +15,7 @@ IsWindow-source w h = record {
   len = length-replicate w (pos 0);
   low = λ i lt. rw get_or-replicate (omega (arith, ints));
   high = λ i lt. rw get_or-replicate (omega (arith, ints));
-  differ = λ i j lt lw e.
-      let li : i < w = omega arith in
-      let a : get_or (replicate w (pos 0)) i (pos 0) ≡ pos 0 = get_or-replicate w i (pos 0) (pos 0) li in
-      let b : get_or (replicate w (pos 0)) j (pos 0) ≡ pos 0 = get_or-replicate w j (pos 0) (pos 0) lw in
-      omega (arith, ints);
+  differ = grind (arith, get_or-replicate);
   due =
       let lt : w / 2 < w = omega arith in
       let a : get_or (replicate w (pos 0)) (w / 2) (pos 0) ≡ pos 0 = get_or-replicate w (w / 2) (pos 0) (pos 0) lt in
@@ -29,20 +25,14 @@ IsWindow-source w h = record {
 -- one landing more: the offset at a place is the old one a place later
 pub offset_at-shifted_below : (xs : List ℤ) (o : ℤ) (i : ℕ) → i + 1 < length xs
     → offset_at (shifted xs o) i ≡ offset_at xs (i + 1)
-offset_at-shifted_below xs o i h =
-    let n : i < length (drop 1 xs) = omega (arith, length-drop 1 xs) in
-    get_or_append_left (drop 1 xs) (o ∷ []) (pos 0) i n ∙ get_or-drop 1 xs i (pos 0)
-    ∙ ap (λ (j : ℕ). get_or xs j (pos 0)) (omega arith)
+offset_at-shifted_below xs o i h = grind (arith, get_or_append_left)
 
 -- and the last one is the new one
 pub offset_at-shifted_last : (xs : List ℤ) (o : ℤ) (i : ℕ) → i + 1 ≡ length xs → offset_at (shifted xs o) i ≡ o
-offset_at-shifted_last xs o i h =
-    let e : length (drop 1 xs) ≡ i = omega (arith, length-drop 1 xs) in
-    let z : i - i ≡ 0 = omega arith in
-    get_or-append_right (drop 1 xs) (o ∷ []) i i (pos 0) e (omega arith) ∙ ap (λ (j : ℕ). get_or (o ∷ []) j (pos 0)) z
+offset_at-shifted_last xs o i h = grind (arith, get_or-append_right)
 
 pub length-shifted : (xs : List ℤ) (o : ℤ) → 0 < length xs → length (shifted xs o) ≡ length xs
-length-shifted xs o h = omega (arith, length-append (drop 1 xs) (o ∷ []), length-drop 1 xs)
+length-shifted xs o h = grind (arith, length-append)
 
 -- a window after one more landing, which repeats no flight and leaves none behind
 pub IsWindow-shifted : (w : ℕ) (xs : List ℤ) (o : ℤ) → IsWindow w xs → pos 0 ≤ℤ (o +ℤ pos (w / 2)) → o ≤ℤ pos (w / 2)
@@ -52,14 +42,8 @@ IsWindow-shifted w xs o is low high fresh due =
     record {
       is_width = is.is_width;
       len = length-shifted xs o some ∙ is.len;
-      low = λ i lt. elim (cases_lt (i + 1) w) [
-        | inr past ↦ rw (offset_at-shifted_last xs o i (omega (arith, is.len))) low
-        | inl n ↦ rw (offset_at-shifted_below xs o i (omega (arith, is.len))) (is.low (i + 1) n)
-      ];
-      high = λ i lt. elim (cases_lt (i + 1) w) [
-        | inr past ↦ rw (offset_at-shifted_last xs o i (omega (arith, is.len))) high
-        | inl n ↦ rw (offset_at-shifted_below xs o i (omega (arith, is.len))) (is.high (i + 1) n)
-      ];
+      low = grind (arith, offset_at-shifted_last, offset_at-shifted_below, is.low);
+      high = grind (arith, offset_at-shifted_last, offset_at-shifted_below, is.high);
       differ = λ i j lt lw same.
           let a : offset_at (shifted xs o) i ≡ offset_at xs (i + 1) =
           offset_at-shifted_below xs o i (omega (arith, is.len)) in
@@ -77,14 +61,11 @@ IsWindow-shifted w xs o is low high fresh due =
 
 -- what a test for a rank says, at either answer
 pub held : (b : Bool) (xs : List ℤ) (r s : ℤ) → (IsTrue b ↔ HoldsRank xs r) → b ≡ true → r ≡ s → HoldsRank xs s
-held b xs r s h t e = let P : ℤ → Type 0 = λ v. HoldsRank xs v in subst P e (h.0 t)
+held b xs r s h t e = grind arith
 
 pub not_held : (b : Bool) (xs : List ℤ) (r s : ℤ) → (IsTrue b ↔ HoldsRank xs r) → b ≡ false → r ≡ s → HoldsRank xs s → ⊥
-not_held b xs r s h f e has =
-    let P : ℤ → Type 0 = λ v. HoldsRank xs v in
-    let t : b ≡ true = h.1 (subst P (sym e) has) in
-    cc
+not_held b xs r s h f e has = grind arith
 
 -- the same test, for a rank that is written otherwise
 pub tested : (b : Bool) (xs : List ℤ) (r s : ℤ) → (IsTrue b ↔ HoldsRank xs r) → r ≡ s → IsTrue b ↔ HoldsRank xs s
-tested b xs r s h e = let P : ℤ → Type 0 = λ v. IsTrue b ↔ HoldsRank xs v in subst P e h
+tested b xs r s h e = grind arith

@@ -1,6 +1,6 @@
 -- What is left of a stage and its lists where the windows without a pair are left out.
-use Rattle.std.proofs.Common.{◌≡◌, ℕ, ◌<◌, List, [], ◌∷◌, length, map, Bool, true, false, inl, refl, ap, ap₂, ◌∙◌}
-use Rattle.std.specs.Prelude.{ℤ, All, nat_lt, slice_range, ◌↔◌}
+use Rattle.std.proofs.Common.{arith, ◌≡◌, ℕ, ◌<◌, List, [], ◌∷◌, length, map, Bool, true, false, inl, refl, ap}
+use Rattle.std.specs.Prelude.{ℤ, All, nat_lt, ◌↔◌}
 use Rattle.std.proofs.lemmas.List.Elements.{All-head, All-tail}
 use Rattle.cps_theory.specs.Labels.{InPairs, Pair}
 use Rattle.landing_rules.specs.Problem.{Problem}
@@ -27,16 +27,18 @@ pub parts_have : (pairs : List Pair) (parts : List (ℕ × ℕ)) → All (IsPart
     → map (λ (x : ℕ × ℕ). nat_lt x.0 x.1) parts ≡ map has_some (lists_of pairs parts)
 parts_have pairs [] all = refl
 parts_have pairs (x ∷ parts) all =
-    ap₂ (λ (c : Bool) (cs : List Bool). c ∷ cs) (part_has_some pairs x (All-head (IsPart (length pairs)) x parts all))
-    (parts_have pairs parts (All-tail (IsPart (length pairs)) x parts all))
+    grind (
+      arith,
+      part_has_some,
+      All-head,
+      All-tail,
+      parts_have pairs parts (All-tail (IsPart (length pairs)) x parts all),
+    )
 
 pub lists_kept : (pairs : List Pair) (parts : List (ℕ × ℕ)) (bs : List Bool) (after : List (ℕ × ℕ))
     (lists : List (List Pair)) → after ≡ kept_where bs parts → bs ≡ map has_some (lists_of pairs parts)
     → lists_of pairs parts ≡ lists → lists_of pairs after ≡ known_of lists lists
-lists_kept pairs parts bs after lists e are is =
-    ap (lists_of pairs) e ∙ map_kept (λ (part : ℕ × ℕ). slice_range pairs part.0 part.1) bs parts
-    ∙ ap (λ (cs : List Bool). kept_where cs (lists_of pairs parts)) are
-    ∙ ap (λ (ls : List (List Pair)). known_of ls ls) is
+lists_kept pairs parts bs after lists e are is = grind (arith, map_kept)
 
 -- ---- which lists have a pair
 
@@ -55,7 +57,7 @@ module _ (p : Problem) (stage : ℕ) (windows : List (List ℤ)) (lists : List (
   some_landable : (i : ℕ) → i < length windows → (has_some (list_at lists i) ≡ true)
       ↔ IsLandable p stage (node_at windows i)
   some_landable i lt = (
-    λ has. let q = some_pair (list_at lists i) has in (q.0, (((are.pairs i lt).undominated q.0).0 q.1).attained),
+    grind (arith, some_pair),
     λ l. let o = (are.pairs i lt).covers l.0 l.1 in pair_some (list_at lists i) o.0 o.1,
   )
 

@@ -1,6 +1,5 @@
 -- How much attained pairs cost at most.
-use Rattle.std.proofs.Common.{◌≡◌, ℕ, zero, suc, ◌-◌, ◌*◌, ◌≤◌, inl, inr, List, [], ◌∷◌, length, get_or, ap, subst}
-use Rattle.std.proofs.Common.{arith, le_trans}
+use Rattle.std.proofs.Common.{ℕ, zero, suc, ◌*◌, ◌≤◌, List, [], ◌∷◌, length, arith, le_trans}
 use Rattle.std.specs.Prelude.{ℤ}
 use Rattle.std.proofs.Math.Nat.{mul-le-mul_right}
 use Rattle.std.proofs.lemmas.Bool.{cases_lt}
@@ -19,27 +18,20 @@ use Rattle.landing_rules.specs.Problem.{Problem, Waiting}
 use Rattle.landing_rules.specs.Rules.{last_second}
 use Rattle.cps_problem.specs.WellFormed.{IsWellFormed}
 use Rattle.cps_network.specs.Landable.{Attains}
-use Rattle.cps_network.specs.Nodes.{Node}
 use Rattle.delay_labels.specs.Bounds.{dearest_landing}
 
 cost_small_by : (o : Objective) (f : Waiting) (t : ℕ) → f.weight ≤ 100 → t ≤ last_second
     → cost_by o f t ≤ dearest_landing
 cost_small_by Makespan f t light low = omega arith
-cost_small_by Delay f t light low =
-    let a : f.weight * (t - f.eta) ≤ 100 * (t - f.eta) = mul-le-mul_right (t - f.eta) light in
-    omega (arith, a, low)
+cost_small_by Delay f t light low = grind (arith, mul-le-mul_right)
 
 light_at : (p : Problem) → IsWellFormed p → (r : ℕ) → (of_rank no_waiting p.flights r).weight ≤ 100
 light_at p wf zero = omega arith
-light_at p wf (suc i) = elim (cases_lt i (length p.flights)) [
-  | inl lt ↦ (wf.weights i no_waiting lt).1
-  | inr ge ↦ (let e : (get_or p.flights i no_waiting).weight ≡ 0 =
-      ap (λ (f : Waiting). f.weight) (get_or_past p.flights i no_waiting ge) in omega arith)
-]
+light_at p wf (suc i) = grind (arith, cases_lt, wf.weights, get_or_past)
 
 module _ (p : Problem) (wf : IsWellFormed p) where
   cost_small : (r t : ℕ) → t ≤ last_second → cost_at p r t ≤ dearest_landing
-  cost_small r t low = cost_small_by p.objective (of_rank no_waiting p.flights r) t (light_at p wf r) low
+  cost_small r t low = grind (arith, cost_small_by, light_at)
 
   -- the landing before is earlier
   before_low : (xs : List Landing) (r t : ℕ) → Legal (ranked p).rules (ranks xs)
@@ -53,17 +45,9 @@ module _ (p : Problem) (wf : IsWellFormed p) where
   trail_small [] legal landed low = omega arith
   trail_small (x ∷ xs) legal landed low =
       let a = before_low xs x.0 x.1 legal.1 landed.1 in
-      let b = trail_small xs legal.1 landed.2 (le_trans a low) in
-      let c = cost_small x.0 x.1 low in
-      omega (arith, b, c)
+      grind (arith, le_trans, cost_small, trail_small xs legal.1 landed.2 (le_trans a low))
 
   -- an attained pair costs at most so much a flight
   pub attained_small : (stage : ℕ) (xs : List ℤ) (q : Pair) → Attains p stage xs q → q.0 ≤ last_second
       → q.1 ≤ dearest_landing * stage
-  attained_small stage xs q a low =
-      let long : length (ranks a.landings) ≡ stage = ap (λ (n : Node). n.0) a.at in
-      let second : (latest_landing a.landings).1 ≡ q.0 = ap (λ (z : Pair). z.0) a.is in
-      let cost : cost_of (cost_at p) a.landings ≡ q.1 = ap (λ (z : Pair). z.1) a.is in
-      let s = trail_small a.landings a.legal a.landed (omega (arith, second, low)) in
-      subst (λ (n : ℕ). q.1 ≤ dearest_landing * n) long
-      (subst (λ (c : ℕ). c ≤ dearest_landing * length (ranks a.landings)) cost s)
+  attained_small stage xs q a low = grind (arith, trail_small)

@@ -2,7 +2,7 @@
 -- which.
 use Rattle.std.proofs.Common.{◌≡◌, ℕ, ◌+◌, ◌-◌, ◌<◌, ◌≤◌, true, List, map, take, length, Option, Some, None, refl, sym}
 use Rattle.std.proofs.Common.{ap, subst, ◌∙◌, arith}
-use Rattle.std.specs.Prelude.{IsSomeAnd, IfSome, MatchOption, slice_get, slice_index_or}
+use Rattle.std.specs.Prelude.{IsSomeAnd, MatchOption, slice_get, slice_index_or}
 use Rattle.std.specs.List.{range_with_len}
 use Rattle.std.specs.declared.ops.Range.{Range}
 use Rattle.std.specs.Iterator.Runs.{SomeRun, AllItemsGive, IsFirstToGive, YieldsRun}
@@ -18,15 +18,7 @@ use denote.Param.Members.{Mut, Called}
 number_at : (xs : List ℕ) (from n i k : ℕ) → from + i ≡ k → map (λ x. x) xs ≡ take (length xs) (range_with_len from n)
     → i < length xs → (slice_get xs i ≡ Some k) × (i < n)
 number_at xs from n i k at is lt =
-    let few : i < n = omega (
-      arith,
-      lt,
-      ap length is,
-      length-map xs (λ x. x),
-      length-take (length xs)
-          (range_with_len from n),
-      length-range_with_len from n,
-    ) in (
+    let few : i < n = grind (arith, length-map, length-take, length-range_with_len) in (
       slice_get-get_or xs i 0 lt ∙ ap Some (ap (λ l. slice_index_or l i 0) (sym (map-id xs) ∙ is)
           ∙ get_or-take (length xs) (range_with_len from n) i 0 lt ∙ get_or-range_with_len from n i 0 few ∙ at),
       few,
@@ -48,16 +40,12 @@ module _ {C F : Type 0} {g : Mut F (ℕ × Unit {0}) (Option C)} (f : F) (Yes : 
   first_from_find_map from to is None (p, at, told) =
       let gave = p.gave in
       let road = YieldsList-at at (YieldsList-from_range from to (to - from) is refl) in
-      let all : map (λ x. x) p.items ≡ range_with_len from (to - from) =
-      items_from_drains p.items (gave.0.0, gave.0.1, λ _. gave.0.2 told.0) road in
-      let long : length p.items ≡ to - from = sym (length-map p.items (λ x. x)) ∙ ap length all
-      ∙ length-range_with_len from (to - from) in
+      let all : map (λ x. x) p.items ≡ range_with_len from (to - from) = grind (arith, items_from_drains) in
+      let long : length p.items ≡ to - from = grind (arith, length-map, length-range_with_len) in
       let silent = told.1 (λ a r q k. stays a.0 r q k) in
       λ k lo hi.
       let here = number_at p.items from (to - from) (k - from) k (omega (arith, lo))
-      (YieldsList-so_far road p.items gave.0.0 gave.0.1) (omega (arith, long, lo, hi)) in
-      (none k f (subst (λ o. IfSome o (λ x. Called g f (x, tt) None f)) (gave.1 (k - from) ∙ here.0)
-      (silent (k - from)))).1
+      (YieldsList-so_far road p.items gave.0.0 gave.0.1) (omega (arith, long, lo, hi)) in grind arith
   first_from_find_map from to is (Some y) (p, at, told) =
       let gave = p.gave in
       let road = YieldsList-at at (YieldsList-from_range from to (to - from) is refl) in

@@ -1,6 +1,7 @@
 -- Lists of pairs, and the successors of their pairs.
-use Rattle.std.proofs.Common.{◌≡◌, ℕ, zero, suc, ◌+◌, ◌-◌, ◌<◌, ◌≤◌, ◌⊎◌, inl, inr, List, [], ◌∷◌, ◌++◌, length, take}
-use Rattle.std.proofs.Common.{drop, Option, Some, None, Bool, cond, append_assoc, refl, sym, ap, subst, ◌∙◌, arith}
+use Rattle.std.proofs.Common.{rules, ◌≡◌, ℕ, zero, suc, ◌+◌, ◌-◌, ◌<◌, ◌≤◌, ◌⊎◌, inl, inr, List, [], ◌∷◌, ◌++◌, length}
+use Rattle.std.proofs.Common.{take, drop, Option, Some, None, Bool, cond, append_assoc, refl, sym, ap, subst, ◌∙◌}
+use Rattle.std.proofs.Common.{arith}
 use Rattle.std.proofs.lemmas.Option.{same_Some}
 use Rattle.std.specs.Prelude.{slice_range}
 use Rattle.std.specs.List.{flat_map}
@@ -33,17 +34,14 @@ pub given_by : (p : Problem) (last rank : ℕ) (pairs : List Pair) (q : Pair) �
 given_by p last rank [] q i = absurd i
 given_by p last rank (x ∷ pairs) q i = elim (some_in (successor p last x rank) (successors p last rank pairs) q i) [
   | inl e ↦ (x, inl refl, e)
-  | inr j ↦ (let a = given_by p last rank pairs q j in (a.0, inr a.1, a.2))
+  | inr j ↦ grind (arith, given_by p last rank pairs q j)
 ]
 
 pub gives_in : (p : Problem) (last rank : ℕ) (pairs : List Pair) (o q : Pair) → InPairs o pairs
     → successor p last o rank ≡ Some q → InPairs q (successors p last rank pairs)
 gives_in p last rank [] o q i e = absurd i
-gives_in p last rank (x ∷ pairs) o q (inl s) e =
-    in_some (successor p last x rank) (successors p last rank pairs) q
-    (inl (ap (λ (z : Pair). successor p last z rank) (sym s) ∙ e))
-gives_in p last rank (x ∷ pairs) o q (inr i) e =
-    in_some (successor p last x rank) (successors p last rank pairs) q (inr (gives_in p last rank pairs o q i e))
+gives_in p last rank (x ∷ pairs) o q (inl s) e = grind (arith, in_some)
+gives_in p last rank (x ∷ pairs) o q (inr i) e = grind (arith, in_some, gives_in p last rank pairs o q i e)
 
 -- and of lists
 flat_in : (f : List Pair → List Pair) (lists : List (List Pair)) (q : Pair) → InPairs q (flat_map f lists)
@@ -62,18 +60,13 @@ in_flat f (l ∷ lists) (suc i) q lt h = in_right q (f l) (flat_map f lists) (in
 
 range_at : (lists : List (List Pair)) (from to i : ℕ) → i < length (slice_range lists from to)
     → (from + i < to) × (list_at (slice_range lists from to) i ≡ list_at lists (from + i))
-range_at lists from to i lt =
-    let a = length-take (to - from) (drop from lists) in
-    let lt' : i < to - from = omega arith in
-    (omega arith, get_or-take (to - from) (drop from lists) i [] lt' ∙ get_or-drop from lists i [])
+range_at lists from to i lt = grind (arith, length-take, get_or-take, get_or-drop)
 
 pub given_in_range : (p : Problem) (last rank : ℕ) (lists : List (List Pair)) (from to : ℕ) (q : Pair)
     → InPairs q (successors_in p last rank lists from to) → IsGivenIn p last rank lists from to q
 given_in_range p last rank lists from to q i =
     let f = flat_in (successors p last rank) (slice_range lists from to) q i in
-    let r = range_at lists from to f.0 f.1 in
-    let g = given_by p last rank (list_at (slice_range lists from to) f.0) q f.2 in
-    (from + f.0, omega arith, r.0, g.0, subst (InPairs g.0) r.1 g.1, g.2)
+    let r = range_at lists from to f.0 f.1 in grind (arith, given_by)
 
 pub range_gives : (p : Problem) (last rank : ℕ) (lists : List (List Pair)) (from to : ℕ) (q : Pair)
     → to ≤ length lists → IsGivenIn p last rank lists from to q → InPairs q (successors_in p last rank lists from to)
@@ -101,8 +94,7 @@ one_more p last rank pairs into more whole i q lt lands put is =
     let rest = successors p last rank (drop (i + 1) pairs) in
     let step : successors p last rank (drop i pairs) ≡ q ∷ rest =
     at_drop_more (successors p last rank) pairs i (0, 0) lt ∙ ap (λ (o : Option Pair). some_before o rest) lands in
-    ap (λ (l : List Pair). l ++ rest) put ∙ append_assoc into (q ∷ []) rest
-    ∙ ap (λ (l : List Pair). into ++ l) (sym step) ∙ is
+    grind (arith, append_assoc)
 
 pub none_more : (p : Problem) (last rank : ℕ) (pairs into more whole : List Pair) (i : ℕ) → i < length pairs
     → successor p last (pair_at pairs i) rank ≡ None → more ≡ into
@@ -112,7 +104,7 @@ none_more p last rank pairs into more whole i lt lands same is =
     let rest = successors p last rank (drop (i + 1) pairs) in
     let step : successors p last rank (drop i pairs) ≡ rest =
     at_drop_more (successors p last rank) pairs i (0, 0) lt ∙ ap (λ (o : Option Pair). some_before o rest) lands in
-    ap (λ (l : List Pair). l ++ rest) same ∙ ap (λ (l : List Pair). into ++ l) (sym step) ∙ is
+    grind arith
 
 pub sweep_more : (pairs into more whole : List Pair) (i least : ℕ) → i < length pairs → (pair_at pairs i).1 < least
     → more ≡ into ++ pair_at pairs i ∷ []
@@ -123,8 +115,7 @@ sweep_more pairs into more whole i least lt cheaper put is =
     let step : sweep least (drop i pairs) ≡ q ∷ rest =
     at_drop_more (sweep least) pairs i (0, 0) lt
     ∙ ap (λ (b : Bool). cond b (q ∷ rest) (sweep least (drop (i + 1) pairs))) (lt-ltb q.1 least cheaper) in
-    ap (λ (l : List Pair). l ++ rest) put ∙ append_assoc into (q ∷ []) rest
-    ∙ ap (λ (l : List Pair). into ++ l) (sym step) ∙ is
+    grind (arith, append_assoc)
 
 pub sweep_past : (pairs into whole : List Pair) (i least : ℕ) → i < length pairs → least ≤ (pair_at pairs i).1
     → into ++ sweep least (drop i pairs) ≡ whole → into ++ sweep least (drop (i + 1) pairs) ≡ whole
@@ -146,12 +137,7 @@ range_more p last rank into more lists from i low lt is e =
     let n : (i + 1) - from ≡ (i - from) + 1 = omega (arith, low) in
     let b = length-drop from lists in
     let t : take ((i + 1) - from) (drop from lists) ≡ take (i - from) (drop from lists) ++ list_at lists i ∷ [] =
-    ap (λ (m : ℕ). take m (drop from lists)) n ∙ take_more (drop from lists) (i - from) [] (omega (arith, b, lt, low))
-    ∙ ap (λ (l : List Pair). take (i - from) (drop from lists) ++ l ∷ []) (get_or-drop from lists (i - from) []
-    ∙ ap (list_at lists) (from_more from i low)) in
-    e ∙ ap (λ (l : List Pair). l ++ successors p last rank (list_at lists i)) is
-    ∙ flat_map_more (successors p last rank) [] (take (i - from) (drop from lists)) (list_at lists i)
-    ∙ ap (flat_map (successors p last rank)) (sym t)
+    grind (arith, take_more, get_or-drop, from_more) in search (rules, flat_map_more)
   where
     from_more : (a b : ℕ) → a ≤ b → a + (b - a) ≡ b
     from_more a b le = omega (arith, le)
@@ -161,18 +147,7 @@ range_more p last rank into more lists from i low lt is e =
 pub each_more : (P : ℕ → List Pair → Type 0) (lists more : List (List Pair)) (pairs : List Pair) (i : ℕ)
     → more ≡ lists ++ pairs ∷ [] → length lists ≡ i → ((m : ℕ) → m < i → P m (list_at lists m)) → P i pairs
     → (length more ≡ i + 1) × ((m : ℕ) → m < i + 1 → P m (list_at more m))
-each_more P lists more pairs i e long old one = (
-  ap length e ∙ length_push lists pairs ∙ ap (λ (n : ℕ). n + 1) long,
-  λ m lt. elim (cases_eq m i) [
-    | inl same ↦ subst (P m) (sym (ap (λ (ls : List (List Pair)). list_at ls m) e
-        ∙ get_or_push lists pairs [] m (long ∙ sym same))) (subst (λ (n : ℕ). P n pairs) (sym same) one)
-    | inr other ↦ (
-        let low : m < i = omega (arith, other, lt) in
-        subst (P m) (sym (ap (λ (ls : List (List Pair)). list_at ls m) e
-        ∙ get_or_append_left lists (pairs ∷ []) [] m (omega (arith, low, long)))) (old m low)
-        )
-  ],
-)
+each_more P lists more pairs i e long old one = grind (arith, length_push, cases_eq, get_or_push, get_or_append_left)
 
 -- ---- pairs in order
 

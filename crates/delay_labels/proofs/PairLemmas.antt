@@ -1,6 +1,6 @@
 -- The pairs of a window of the next stage, from those of the windows that lead to it.
-use Rattle.std.proofs.Common.{◌≡◌, ℕ, suc, ◌+◌, ◌-◌, ◌<◌, ◌≤◌, ◌⊎◌, inl, inr, List, [], ◌∷◌, ◌++◌, length, get_or}
-use Rattle.std.proofs.Common.{Option, Some, None, true, refl, sym, ap, subst, ◌∙◌, arith}
+use Rattle.std.proofs.Common.{rules, ◌≡◌, ℕ, suc, ◌+◌, ◌-◌, ◌<◌, ◌≤◌, ◌⊎◌, inl, inr, List, [], ◌∷◌, ◌++◌, length}
+use Rattle.std.proofs.Common.{get_or, Option, Some, None, true, refl, sym, ap, subst, ◌∙◌, arith}
 use Rattle.std.specs.Prelude.{ℤ, pos, ◌+ℤ◌, Contains, All, IsSome, MatchOption}
 use Rattle.std.specs.List.Sorted.{IsPermutation}
 use Rattle.std.proofs.lemmas.Int.{ints}
@@ -47,13 +47,7 @@ module _ (p : Problem) (wf : IsWellFormed p) (w stage : ℕ) (before : List (Lis
     (rank_is : pos r ≡ pos (suc stage) +ℤ offset_at v (w - 1)) where
   -- few flights have landed
   pub few : suc stage ≤ 63
-  few =
-      let may = range.node.2.1 in
-      let a = may.late in
-      let b = may.to_count in
-      let c = wf.few_places in
-      let d = wf.few_flights in
-      omega (arith, a, b, c, d)
+  few = grind arith
 
   listed_attained : (j : ℕ) → j < length before → (o : Pair) → InPairs o (list_at lists j)
       → Attains p stage (node_at before j) o
@@ -63,8 +57,7 @@ module _ (p : Problem) (wf : IsWellFormed p) (w stage : ℕ) (before : List (Lis
   pub listed_small : (j : ℕ) → j < length before → All (λ (q : Pair). q.1 ≤ most_before) (list_at lists j)
   listed_small j lt i d within =
       let o : Pair = get_or (list_at lists j) i d in
-      let has : InPairs (get_or (list_at lists j) i d) (list_at lists j) = at_in (list_at lists j) i
-      (get_or (list_at lists j) i d) within (get_or_default (list_at lists j) i (0, 0) d within) in
+      let has : InPairs (get_or (list_at lists j) i d) (list_at lists j) = search (rules, at_in, get_or_default) in
       let s = attained_small p wf stage (node_at before j) (get_or (list_at lists j) i d)
       (listed_attained j lt (get_or (list_at lists j) i d) has) (days j i d within) in
       omega (arith, s, few)
@@ -75,11 +68,9 @@ module _ (p : Problem) (wf : IsWellFormed p) (w stage : ℕ) (before : List (Lis
   gives j lo hi o q i e =
       let lt : j < length before = omega (arith, hi, range.within) in
       let s = successor_at p w stage before v from to range j lo hi in
-      let same : s.0 ≡ r = rank_of p w stage before v from to range r rank_is (node_at before j)
-      (landable_at p w stage before v from to range j lt) s in
-      let lead : latest (stage, node_at before j) ≡ l =
-      leader_at p w stage before v from to range l leader_is j lo hi in
-      (s, ap (λ (y : ℕ). successor p y o s.0) lead ∙ ap (λ (y : ℕ). successor p l o y) same ∙ e)
+      let same : s.0 ≡ r = search (rules, rank_of, landable_at) in
+      let lead : latest (stage, node_at before j) ≡ l = search (rules, leader_at) in
+      (s, grind arith)
 
   -- a successor of a listed pair is attained
   given_attained : (q : Pair) → IsGivenIn p l r lists from to q → Attains p (suc stage) v q
@@ -97,34 +88,12 @@ module _ (p : Problem) (wf : IsWellFormed p) (w stage : ℕ) (before : List (Lis
       × GivesPair p (stage, before) lists v q place index
   given_pair q (j, lo, hi, o, i, e) =
       let at = in_at o (list_at lists j) i in
-      let g = gives j lo hi o q i e in (
-        j,
-        at.0,
-        record {
-          within = omega (arith, hi, range.within);
-          listed = at.1;
-          rank = g.0.0;
-          permitted = g.0.1;
-          next = g.0.2;
-          lands = ap (λ (z : Pair). successor p (latest (stage, node_at before j)) z g.0.0) at.2 ∙ g.1;
-        },
-      )
+      let g = gives j lo hi o q i e in grind arith
 
   -- which places and indices give a pair
   pub gives_at : (q : Pair) (j index : ℕ) → from ≤ j → j < to → index < length (list_at lists j)
       → successor p l (pair_at (list_at lists j) index) r ≡ Some q → GivesPair p (stage, before) lists v q j index
-  gives_at q j index lo hi lt e =
-      let g = gives j lo hi (pair_at (list_at lists j) index) q
-      (at_in (list_at lists j) index (pair_at (list_at lists j) index) lt refl) e in
-      record {
-        within = omega (arith, hi, range.within);
-        listed = lt;
-        rank = g.0.0;
-        permitted =
-            g.0.1;
-        next = g.0.2;
-        lands = g.1;
-      }
+  gives_at q j index lo hi lt e = grind (arith, gives, at_in)
 
   pub given_at : (q : Pair) (j index : ℕ) → GivesPair p (stage, before) lists v q j index
       → (from ≤ j) × (j < to) × (index < length (list_at lists j))
@@ -134,14 +103,7 @@ module _ (p : Problem) (wf : IsWellFormed p) (w stage : ℕ) (before : List (Lis
       let found = place_at p w stage before v from to range j g.within x in
       let same : g.rank ≡ r = rank_of p w stage before v from to range r rank_is (node_at before j)
       (landable_at p w stage before v from to range j g.within) x in
-      let lead : latest (stage, node_at before j) ≡ l =
-      leader_at p w stage before v from to range l leader_is j found.0 found.1 in (
-        found.0,
-        found.1,
-        g.listed,
-        sym (ap (λ (y : ℕ). successor p y (pair_at (list_at lists j) index) g.rank) lead
-            ∙ ap (λ (y : ℕ). successor p l (pair_at (list_at lists j) index) y) same) ∙ g.lands,
-      )
+      let lead : latest (stage, node_at before j) ≡ l = search (rules, leader_at) in grind arith
 
   -- where some place and index give the pair, some are found in the range
   pub source_known : (q : Pair) (j index : ℕ) → GivesPair p (stage, before) lists v q j index → (found : Option (ℕ × ℕ))
@@ -164,12 +126,7 @@ module _ (p : Problem) (wf : IsWellFormed p) (w stage : ℕ) (before : List (Lis
       subst (IsFirstToGive q) (same_Some (place, i) at e) (
         gives_at q place i lo hi within lands,
         λ n m below other.
-            let g = given_at q n m other in
-            elim below [
-              | inl lt ↦ none n g.0 lt m g.2 g.3
-              | inr at ↦ first m at.1 (subst (λ (o : ℕ). successor p l (pair_at (list_at lists o) m) r ≡ Some q)
-                  at.0 g.3)
-            ],
+            let g = given_at q n m other in grind arith,
       )
 
   abbrev Lists : Node → Pair → Type 0
@@ -181,14 +138,14 @@ module _ (p : Problem) (wf : IsWellFormed p) (w stage : ℕ) (before : List (Lis
 
   source_kept : (n : Node) → n.0 ≡ stage → Kept (Here n) (Lists n)
   source_kept n at = record {
-    attained = λ q k. subst (λ (m : Node). Here m q) (sym k.2) (listed_attained k.0 k.1 q k.3);
+    attained = grind (arith, listed_attained);
     covers = λ q a.
         let same : n ≡ (stage, n.1) = ap (λ (s : ℕ). (s, n.1)) at in
         let a' : Attains p stage n.1 q = subst (λ (m : Node). Here m q) same a in
         let has = (range.holds n.1).1 (q, a') in
         let it : node_at before has.0 ≡ n.1 = get_or_default before has.0 [] n.1 has.1 ∙ has.2 in
         let c = (are.pairs has.0 has.1).covers q (subst (λ (y : List ℤ). Attains p stage y q) (sym it) a') in
-        (c.0, (has.0, has.1, same ∙ ap (λ (y : List ℤ). (stage, y)) (sym it), c.1), c.2);
+        grind arith;
   }
 
   -- lists of which each pair is a successor, and each successor has one no later and no dearer
@@ -303,8 +260,7 @@ pairs_here p wf w before after v from to range lists costs more are days l r lea
 pub given_source : (p : Problem) (before : ℕ × List (List ℤ)) (lists : List (List Pair)) (v : List ℤ)
     (q : Pair) (j index : ℕ) → GivesPair p before lists v q j index
     → (x : List ℤ) × Contains before.1 x × IsSuccessor p before.0 x v
-given_source p before lists v q j index g =
-    (node_at before.1 j, Contains-get_or before.1 j [] g.within, (g.rank, g.permitted, g.next))
+given_source p before lists v q j index g = grind (arith, Contains-get_or)
 
 -- the ranks that land last there, as numbers of flights
 module _ {p : Problem} {w stage : ℕ} {before : List (List ℤ)} {v : List ℤ} {from to : ℕ}
@@ -316,7 +272,4 @@ module _ {p : Problem} {w stage : ℕ} {before : List (List ℤ)} {v : List ℤ}
 
   pub rank_within : (r : ℕ) → pos r ≡ pos (suc stage) +ℤ offset_at v (w - 1) → (1 ≤ r) × (r ≤ length p.flights)
   rank_within r is =
-      let k = rank_range p w stage before v from to range in
-      let lo = k.0 in
-      let hi = k.1 in
-      (omega (arith, ints, is, lo), omega (arith, ints, is, hi))
+      let k = rank_range p w stage before v from to range in grind arith

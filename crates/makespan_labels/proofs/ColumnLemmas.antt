@@ -1,11 +1,9 @@
 -- Which labels are known, the landable windows that are left where the others go, and the least number of a range.
-use Rattle.std.proofs.Common.{◌≡◌, ℕ, ◌+◌, ◌<◌, ◌≤◌, ◌⊎◌, List, length, Option, Some, None, Bool, true, false, refl}
-use Rattle.std.proofs.Common.{sym, ap, subst, ◌∙◌, arith, inl, inr, min, set}
+use Rattle.std.proofs.Common.{rules, ◌≡◌, ℕ, ◌+◌, ◌<◌, ◌≤◌, ◌⊎◌, List, length, Option, Some, None, true, false, sym, ap}
+use Rattle.std.proofs.Common.{arith, inl, inr, min, set}
 use Rattle.std.specs.Prelude.{ℤ, slice_index, All, nat_eq, ◌↔◌}
 use Rattle.std.specs.Option.{option_eq}
-use Rattle.std.proofs.lemmas.Bool.{cases_eq, cases_lt, eqb-true, eq-eqb, both_ways, false_from_ne_true, not-true}
-use Rattle.std.proofs.lemmas.Bool.{not_from_false}
-use Rattle.std.proofs.lemmas.List.{length-set, get_or-set_same, get_or-set_other}
+use Rattle.std.proofs.lemmas.Bool.{cases_eq, eqb-true}
 use Rattle.landing_rules.specs.Problem.{Problem}
 use Rattle.landing_rules.specs.Rules.{last_second}
 use Rattle.cps_network.specs.Landable.{IsLandable, HasEachLandable}
@@ -13,12 +11,12 @@ use Rattle.cps_network.specs.Lists.{node_at}
 use Rattle.cps_network.specs.shared.KeptPlaces.{one_each_left, each_left, landable_left}
 use Rattle.makespan_labels.specs.Labels.{no_label, IsLabel, AreLabels, HoldsLabels}
 use Rattle.makespan_labels.specs.Columns.{IsEntry, IsLabelOf, IsLeastOf, is_known, known_of}
-use Rattle.makespan_labels.specs.shared.NetworkSteps.{can_land, is_landable}
+use Rattle.makespan_labels.specs.shared.NetworkSteps.{can_land}
 
 -- ---- the least of a range
 
 min_cases : (a b : ℕ) → ((min a b ≡ a) × (a ≤ b)) ⊎ ((min a b ≡ b) × (b ≤ a))
-min_cases a b = elim (cases_lt a b) [ inl lt ↦ inl (omega arith, omega arith) | inr le ↦ inr (omega arith, le) ]
+min_cases a b = grind arith
 
 pub least_one : (labels : List ℕ) (i least : ℕ) → least ≡ slice_index labels i → IsLeastOf labels i (i + 1) least
 least_one labels i least is = record {
@@ -26,22 +24,12 @@ least_one labels i least is = record {
   from_here = omega arith;
   to_there = omega arith;
   is = sym is;
-  low = λ j lo hi. let e : i ≡ j = omega (arith, lo, hi) in let f = ap (slice_index labels) e in omega (arith, is, f);
+  low = grind arith;
 }
 
 pub least_more : (labels : List ℕ) (from i least : ℕ) → from ≤ i → IsLeastOf labels from i least
     → IsLeastOf labels from (i + 1) (min least (slice_index labels i))
-least_more labels from i least le is = elim (min_cases least (slice_index labels i)) [
-  | inl a ↦ record {
-    place = is.place;
-    from_here = is.from_here;
-    to_there = omega (arith, is.to_there);
-    is =
-        is.is ∙ sym a.0;
-    low = low;
-  }
-  | inr b ↦ record { place = i; from_here = le; to_there = omega arith; is = sym b.0; low = low }
-]
+least_more labels from i least le is = grind (arith, min_cases, slice_index, low)
   where
     low : (j : ℕ) → from ≤ j → j < i + 1 → min least (slice_index labels i) ≤ slice_index labels j
     low j lo hi = elim (cases_eq j i) [
@@ -50,48 +38,29 @@ least_more labels from i least le is = elim (min_cases least (slice_index labels
     ]
 
 pub entry_least : (a b : ℕ) → IsEntry a → IsEntry b → IsEntry (min a b)
-entry_least a b x y = elim (min_cases a b) [ inl l ↦ subst IsEntry (sym l.0) x | inr r ↦ subst IsEntry (sym r.0) y ]
+entry_least a b x y = grind arith
 
 least_to : (labels : List ℕ) (from i j least next : ℕ) → j ≡ i + 1 → from ≤ i → next ≡ slice_index labels i
     → IsLeastOf labels from i least → IsLeastOf labels from j (min least next)
-least_to labels from i j least next e le is held = subst (λ (x : ℕ). IsLeastOf labels from j (min least x)) (sym is)
-    (subst (λ (m : ℕ). IsLeastOf labels from m (min least (slice_index labels i))) (sym e)
-    (least_more labels from i least le held))
+least_to labels from i j least next e le is held = grind (arith, slice_index, least_more)
 
 -- the least of up to four
 module _ (labels : List ℕ) (from to a : ℕ) (a_is : a ≡ slice_index labels from) where
   pub least_two : (b : ℕ) → to ≡ from + 2 → b ≡ slice_index labels (from + 1) → IsLeastOf labels from to (min a b)
-  least_two b e b_is = least_to labels from (from + 1) to a b (omega (arith, e)) (omega arith) b_is
-      (least_one labels from a a_is)
+  least_two b e b_is = grind (arith, least_to, least_one)
 
 module _ (labels : List ℕ) (from to a b c : ℕ) (a_is : a ≡ slice_index labels from)
     (b_is : b ≡ slice_index labels (from + 1)) (c_is : c ≡ slice_index labels (from + 2)) where
   pub least_three : to ≡ from + 3 → IsLeastOf labels from to (min (min a b) c)
-  least_three e = least_to labels from (from + 2) to (min a b) c (omega (arith, e)) (omega arith) c_is
-      (least_two labels from (from + 2) a a_is b (omega arith) b_is)
+  least_three e = grind (arith, least_to, least_two)
 
   pub least_four : (d : ℕ) → to ≡ from + 4 → d ≡ slice_index labels (from + 3)
       → IsLeastOf labels from to (min (min (min a b) c) d)
-  least_four d e d_is = least_to labels from (from + 3) to (min (min a b) c) d (omega (arith, e)) (omega arith) d_is
-      (least_to labels from (from + 2) (from + 3) (min a b) c (omega arith) (omega arith) c_is
-      (least_two labels from (from + 2) a a_is b (omega arith) b_is))
+  least_four d e d_is = grind (arith, least_to, least_two)
 
 pub entry_of : (landing : Option ℕ) (label : ℕ) → IsLabelOf landing label → IsEntry label
 entry_of None label of = inr of.is
 entry_of (Some t) label of = inl (omega (arith, of.is, of.in_days))
-
--- ---- which labels are known
-
-pub known_is : (x : ℕ) → is_known x ≡ true → x ≡ no_label → ⊥
-known_is x b e = both_ways (nat_eq x no_label) (not-true (nat_eq x no_label) b) (eq-eqb x no_label e)
-
-pub is_known_of : (x : ℕ) → (x ≡ no_label → ⊥) → is_known x ≡ true
-is_known_of x ne = not_from_false (nat_eq x no_label)
-    (false_from_ne_true (nat_eq x no_label) (λ b. ne (eqb-true x no_label b)))
-
-entry_known : (x : ℕ) → IsEntry x → is_known x ≡ true → x < no_label
-entry_known x (inl le) b = omega (arith, le)
-entry_known x (inr e) b = absurd (known_is x b e)
 
 pub entry_small : (x : ℕ) → IsEntry x → x < no_label → x ≤ last_second
 entry_small x (inl le) lt = le
@@ -104,19 +73,16 @@ module _ (p : Problem) (stage : ℕ) (windows : List (List ℤ)) (labels : List 
   known_landable : (i : ℕ) → i < length windows → (is_known (slice_index labels i) ≡ true)
       ↔ IsLandable p stage (node_at windows i)
   known_landable i lt = (
-    λ known. is_landable p stage (node_at windows i) (slice_index labels i)
-        ((are.label i lt).attained
-        (entry_known (slice_index labels i) (entries i 0 (omega (arith, lt, are.one_each))) known)),
+    grind arith,
     λ l.
-        let low = ((are.label i lt).least _ (can_land p stage (node_at windows i) l)).0 in
-        is_known_of (slice_index labels i) (λ e. omega (arith, low, e)),
+        let low = ((are.label i lt).least _ (can_land p stage (node_at windows i) l)).0 in grind arith,
   )
 
   pub kept_labels : HoldsLabels p (stage, known_of labels windows) (known_of labels labels)
   kept_labels = record {
     landable = landable_left is_known 0 windows labels are.one_each p stage each known_landable;
     labelled = record {
-      one_each = one_each_left is_known 0 windows labels are.one_each;
+      one_each = grind (arith, one_each_left, is_known);
       label = each_left is_known 0 windows labels are.one_each
           (λ (xs : List ℤ) (label : ℕ). IsLabel p stage xs label) are.label;
     };
@@ -127,19 +93,7 @@ module _ (p : Problem) (stage : ℕ) (windows : List (List ℤ)) (labels : List 
 pub set_more : (P : ℕ → ℕ → Type 0) (into after : List ℕ) (i label n : ℕ) → after ≡ set into i label
     → i < n → length into ≡ n → ((m : ℕ) → m < i → P m (slice_index into m)) → P i label
     → (length after ≡ n) × ((m : ℕ) → m < i + 1 → P m (slice_index after m))
-set_more P into after i label n e lt long old one = (
-  ap length e ∙ length-set into i label ∙ long,
-  λ m le. elim (cases_eq m i) [
-    | inl same ↦
-        let at : slice_index after m ≡ label = ap (λ (l : List ℕ). slice_index l m) e
-        ∙ ap (λ (q : ℕ). slice_index (set into i label) q) same ∙ get_or-set_same into i label 0 (omega arith) in
-        subst (P m) (sym at) (subst (λ (q : ℕ). P q label) (sym same) one)
-    | inr other ↦
-        let at : slice_index after m ≡ slice_index into m =
-        ap (λ (l : List ℕ). slice_index l m) e ∙ get_or-set_other into i m label 0 other in
-        subst (P m) (sym at) (old m (omega (arith, other, le)))
-  ],
-)
+set_more P into after i label n e lt long old one = search rules
 
 -- ---- whether an answer is this number
 
@@ -148,7 +102,4 @@ some_from_eq None x e = cc
 some_from_eq (Some y) x e = ap Some (eqb-true y x (sym e))
 
 pub none_from_eq : (o : Option ℕ) (x : ℕ) → false ≡ option_eq nat_eq o (Some x) → o ≡ Some x → ⊥
-none_from_eq o x e is = some_differs (ap (λ (q : Option ℕ). option_eq nat_eq q (Some x)) is) e
-  where
-    some_differs : {b : Bool} → b ≡ nat_eq x x → false ≡ b → ⊥
-    some_differs {b} f g = let h = eq-eqb x x refl in cc
+none_from_eq o x e is = grind arith

@@ -1,64 +1,34 @@
 -- Windows of a stage that share a tail: the same rank landed last in each, and may land at the least of their labels as
 -- the first.
-use Rattle.std.proofs.Common.{◌≡◌, ℕ, suc, ◌-◌, ◌*◌, ◌+◌, ◌<◌, ◌≤◌, List, [], ◌∷◌, length, drop, refl, subst, sym, ap}
-use Rattle.std.proofs.Common.{◌∙◌, arith, inl, inr}
+use Rattle.std.proofs.Common.{◌≡◌, ℕ, ◌-◌, ◌*◌, ◌+◌, ◌<◌, ◌≤◌, List, [], length, drop, subst, arith}
 use Rattle.std.specs.Prelude.{ℤ, pos, ◌+ℤ◌, slice_index}
 use Rattle.std.proofs.lemmas.Int.{ints}
 use Rattle.std.proofs.lemmas.List.Elements.{Contains-get_or}
-use Rattle.std.proofs.lemmas.Bool.{cases_eq}
 use Rattle.wake_table.specs.declared.category.Category.{Category}
 use Rattle.landing_rules.specs.Problem.{Problem}
 use Rattle.cps_nodes.specs.Windows.{IsWindow, offset_at}
-use Rattle.cps_theory.specs.LandingTrail.{last_rank, ranks}
-use Rattle.cps_theory.specs.LegalPrefix.{Legal}
 use Rattle.cps_theory.specs.RankLists.{of_rank}
-use Rattle.landing_joint.specs.RankedProblem.{no_waiting, ranked, start_at}
+use Rattle.landing_joint.specs.RankedProblem.{no_waiting}
 use Rattle.cps_network.specs.Groups.{IsGroup}
 use Rattle.cps_network.specs.Landable.{IsLandable}
 use Rattle.cps_network.specs.Lists.{node_at}
-use Rattle.cps_network.specs.Nodes.{Node, latest, IsWindowNetwork}
+use Rattle.cps_network.specs.Nodes.{latest, IsWindowNetwork}
 use Rattle.cps_network.specs.WindowLaws.{WindowLaws}
 use Rattle.cps_network.specs.shared.LegalWindows.{landable_valid, landable_last}
 use Rattle.makespan_labels.specs.Columns.{IsEntry, IsLeastOf}
 use Rattle.makespan_labels.specs.Groups.{IsLead}
 use Rattle.makespan_labels.specs.Labels.{no_label, CanLandAt, HoldsLabels}
 use Rattle.makespan_labels.specs.shared.NetworkSteps.{can_land}
-use Rattle.makespan_labels.proofs.ColumnLemmas.{entry_small}
-use Rattle.makespan_labels.proofs.LeadLemmas.{can_started}
-
-offset_tail : (xs : List ℤ) (i : ℕ) → offset_at xs (suc i) ≡ offset_at (drop 1 xs) i
-offset_tail [] i = refl
-offset_tail (x ∷ xs) i = refl
 
 -- windows with the same offsets from the second on end alike
 same_end : (w : ℕ) (x y : List ℤ) → IsWindow w x → IsWindow w y → drop 1 x ≡ drop 1 y
     → offset_at x (w - 1) ≡ offset_at y (w - 1)
-same_end w x y a b e = elim (cases_eq w 1) [
-  | inl one ↦
-      let p : offset_at x (w - 1) ≡ pos 0 =
-      omega (arith, ints, a.low (w - 1) (omega arith), a.high (w - 1) (omega arith)) in
-      let q : offset_at y (w - 1) ≡ pos 0 =
-      omega (arith, ints, b.low (w - 1) (omega arith), b.high (w - 1) (omega arith)) in
-      p ∙ sym q
-  | inr more ↦
-      let n : w - 1 ≡ suc (w - 2) = omega (arith, a.is_width) in
-      ap (offset_at x) n ∙ offset_tail x (w - 2) ∙ ap (λ (l : List ℤ). offset_at l (w - 2)) e
-      ∙ sym (offset_tail y (w - 2)) ∙ ap (offset_at y) (sym n)
-]
-
-rank_flight : (p : Problem) (rs : List ℕ) → Legal (ranked p).rules rs → 0 < length rs → 1 ≤ last_rank rs
-rank_flight p [] legal some = absurd (omega (arith, some))
-rank_flight p (r ∷ rs) legal some = legal.0.fits.from_one
+same_end w x y a b e = grind arith
 
 -- behind a first landing a landable window has a latest rank
 landable_flight : (p : Problem) → IsWindowNetwork p → (stage : ℕ) (x : List ℤ) → IsLandable p stage x
     → 0 < stage → 1 ≤ latest (stage, x)
-landable_flight p net stage x l some =
-    let is : latest (stage, x) ≡ last_rank (ranks l.1.landings) =
-    ap latest (sym l.1.at) ∙ net.newest_is (ranks l.1.landings) l.1.legal in
-    let long : length (ranks l.1.landings) ≡ stage = ap (λ (n : Node). n.0) l.1.at in
-    let one = rank_flight p (ranks l.1.landings) l.1.legal (omega (arith, long, some)) in
-    omega (arith, is, one)
+landable_flight p net stage x l some = grind arith
 
 module _ (p : Problem) (w stage : ℕ) (before : List (List ℤ)) (labels : List ℕ) (odd : w ≡ 2 * p.k + 1)
     (laws : WindowLaws p w) (held : HoldsLabels p (stage, before) labels) (from to : ℕ)
@@ -76,10 +46,7 @@ module _ (p : Problem) (w stage : ℕ) (before : List (List ℤ)) (labels : List
   pub leader_flight : (l : ℕ) → pos l ≡ pos stage +ℤ offset_at (node_at before from) (w - 1) → 0 < stage → 1 ≤ l
   leader_flight l is some =
       let one = landable_flight p laws.network stage (node_at before from)
-      (landable_in from (omega (arith, group.some, group.within))) some in
-      let k = group_leader in
-      let e = k.0 in
-      omega (arith, ints, is, e, one)
+      (landable_in from (omega (arith, group.some, group.within))) some in grind (arith, group_leader)
 
   leader_in : (l : ℕ) → pos l ≡ pos stage +ℤ offset_at (node_at before from) (w - 1) → (j : ℕ)
       → from ≤ j → j < to → latest (stage, node_at before j) ≡ l
@@ -113,8 +80,7 @@ module _ (p : Problem) (w stage : ℕ) (before : List (List ℤ)) (labels : List
       let h = k.1 in
       record {
         within = omega (arith, ints, leader_is, e, h);
-        in_days = entry_small best entry (omega (arith, known, least.is));
+        in_days = omega arith;
         category_is = is;
-        started = λ one. subst (λ (x : ℕ). start_at p x ≤ best) lead
-            (can_started p laws.network stage (node_at before least.place) best can (omega (arith, one, lead)));
+        started = grind arith;
       }

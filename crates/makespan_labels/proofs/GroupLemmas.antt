@@ -1,5 +1,5 @@
 -- Windows that are read in slices, and groups that lead on from one to the other.
-use Rattle.std.proofs.Common.{◌≡◌, ℕ, zero, suc, ◌<◌, false, List, [], length, get_or, sym, ap, subst, ◌∙◌, arith}
+use Rattle.std.proofs.Common.{◌≡◌, ℕ, zero, suc, ◌<◌, false, List, length, get_or, arith}
 use Rattle.std.specs.Prelude.{ℤ, nat_eq}
 use Rattle.std.proofs.lemmas.List.{get_or_default}
 use Rattle.cps_nodes.specs.Leads.{Extends}
@@ -9,11 +9,10 @@ use Rattle.cps_network.specs.Lists.{node_at}
 
 pub window_at : (slice windows : List (List ℤ)) (i : ℕ) (x : List ℤ) → slice ≡ windows → i < length windows
     → x ≡ get_or slice i x → x ≡ node_at windows i
-window_at slice windows i x e lt is = is ∙ ap (λ (zs : List (List ℤ)). get_or zs i x) e
-    ∙ sym (get_or_default windows i [] x lt)
+window_at slice windows i x e lt is = grind (arith, get_or_default)
 
 pub extends_there : (x y v w : List ℤ) → x ≡ y → v ≡ w → Extends x v → Extends y w
-extends_there x y v w e f leads = subst (λ (z : List ℤ). Extends y z) f (subst (λ (z : List ℤ). Extends z v) e leads)
+extends_there x y v w e f leads = grind arith
 
 pub first_within : (windows : List (List ℤ)) (from to : ℕ) → IsGroup windows from to → from < length windows
 first_within windows from to group = omega (arith, group.some, group.within)

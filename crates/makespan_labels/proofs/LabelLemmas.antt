@@ -1,7 +1,7 @@
 -- The label of a window of the next stage, from the least label of the windows that lead to it.
-use Rattle.std.proofs.Common.{◌≡◌, ℕ, suc, ◌+◌, ◌-◌, ◌<◌, ◌≤◌, List, length, Option, Some, None, refl, sym, ap, subst}
-use Rattle.std.proofs.Common.{◌∙◌, arith, le_trans, true, false}
-use Rattle.std.proofs.lemmas.Option.{none-some, same_Some}
+use Rattle.std.proofs.Common.{rules, ◌≡◌, ℕ, suc, ◌+◌, ◌-◌, ◌<◌, ◌≤◌, List, length, Option, Some, None, refl, sym, ap}
+use Rattle.std.proofs.Common.{subst, ◌∙◌, arith, le_trans, true, false}
+use Rattle.std.proofs.lemmas.Option.{none-some}
 use Rattle.std.specs.Prelude.{ℤ, pos, ◌+ℤ◌, slice_index, MatchOption, unwrap_or, nat_eq}
 use Rattle.std.specs.Option.{option_eq}
 use Rattle.cps_nodes.specs.Windows.{offset_at}
@@ -29,11 +29,7 @@ in_reach p w stage before v from to range r rank_is =
     let some = some_range p w stage before v from to range in
     let lt : from < length before = omega (arith, some, range.within) in
     let s = successor_at p w stage before v from to range from (omega arith) some in
-    let same : s.0 ≡ r = rank_of p w stage before v from to range r rank_is (node_at before from)
-    (landable_at p w stage before v from to range from lt) s in
-    let late = s.1.late in
-    let early = s.1.early in
-    (omega (arith, same, late), omega (arith, same, early))
+    let same : s.0 ≡ r = search (rules, rank_of, landable_at) in omega arith
 
 module _ (p : Problem) (w stage : ℕ) (before : List (List ℤ)) (v : List ℤ) (from to : ℕ)
     (range : Sources p w stage before v from to) (labels : List ℕ) (are : AreLabels p (stage, before) labels) where
@@ -54,13 +50,10 @@ module _ (p : Problem) (w stage : ℕ) (before : List (List ℤ)) (v : List ℤ)
     behind_label j lo hi =
         let lt : j < length before = omega (arith, hi, range.within) in
         let s = successor_at p w stage before v from to range j lo hi in
-        let same : s.0 ≡ r = rank_of p w stage before v from to range r rank_is (node_at before j)
-        (landable_at p w stage before v from to range j lt) s in
-        let lead : latest (stage, node_at before j) ≡ l =
-        leader_at p w stage before v from to range l leader_is j lo hi in (
+        let same : s.0 ≡ r = search (rules, rank_of, landable_at) in
+        let lead : latest (stage, node_at before j) ≡ l = search (rules, leader_at) in (
           s,
-          ap (λ (x : ℕ). landing_after p x (slice_index labels j) s.0) lead
-              ∙ ap (λ (x : ℕ). landing_after p l (slice_index labels j) x) same,
+          cc,
         )
 
     pub lands_at : (j t : ℕ) → from ≤ j → j < to → landing_after p l (slice_index labels j) r ≡ Some t
@@ -111,14 +104,10 @@ module _ (p : Problem) (w stage : ℕ) (before : List (List ℤ)) (v : List ℤ)
       pub label_some : (second : ℕ) → second ≤ last_second → landing_after p l best r ≡ Some second
           → IsLabel p (suc stage) v second
       label_some second in_days e = record {
-        attained = λ _. lands_at least.place second least.from_here least.to_there
-            (ap (λ (b : ℕ). landing_after p l b r) least.is ∙ e);
+        attained = grind (arith, lands_at, least.place, least.from_here, least.to_there, landing_after);
         least = λ t a.
             let j = landing_behind t a in
-            let u = j.3 best (least.low j.0 j.1 j.2) in
-            let same : second ≡ u.0 = same_Some second u.0 (sym e ∙ u.1) in
-            let le = u.2 in
-            (omega (arith, in_days), omega (arith, same, le));
+            let u = j.3 best (least.low j.0 j.1 j.2) in grind arith;
       }
 
       -- the label that the landing gives
@@ -135,15 +124,7 @@ module _ (p : Problem) (w stage : ℕ) (before : List (List ℤ)) (v : List ℤ)
     pub gives_label : (j t : ℕ) → from ≤ j → j < to → landing_after p l (slice_index labels j) r ≡ Some t
         → GivesLabel p (stage, before) labels v t j
     gives_label j t lo hi e =
-        let b = behind_label j lo hi in
-        record {
-          within = omega (arith, hi, range.within);
-          rank = b.0.0;
-          permitted = b.0.1;
-          next =
-              b.0.2;
-          lands = b.1 ∙ e;
-        }
+        let b = behind_label j lo hi in grind arith
 
     pub given_in_range : (j t : ℕ) → GivesLabel p (stage, before) labels v t j → (from ≤ j)
         × (j < to) × (landing_after p l (slice_index labels j) r ≡ Some t)
@@ -152,23 +133,14 @@ module _ (p : Problem) (w stage : ℕ) (before : List (List ℤ)) (v : List ℤ)
         let found = place_at p w stage before v from to range j g.within s in
         let same : g.rank ≡ r = rank_of p w stage before v from to range r rank_is (node_at before j)
         (landable_at p w stage before v from to range j g.within) s in
-        let lead : latest (stage, node_at before j) ≡ l =
-        leader_at p w stage before v from to range l leader_is j found.0 found.1 in (
-          found.0,
-          found.1,
-          sym (ap (λ (x : ℕ). landing_after p x (slice_index labels j) g.rank) lead
-              ∙ ap (λ (x : ℕ). landing_after p l (slice_index labels j) x) same) ∙ g.lands,
-        )
+        let lead : latest (stage, node_at before j) ≡ l = search (rules, leader_at, found.0) in grind arith
 
     pub some_gives : (label : ℕ) → label < no_label → IsLabel p (suc stage) v label
         → (j : ℕ) × (from ≤ j) × (j < to) × (landing_after p l (slice_index labels j) r ≡ Some label)
     some_gives label known is =
         let j = landing_behind label (is.attained known) in
         let u = j.3 (slice_index labels j.0) (omega arith) in
-        let low = (is.least u.0 (lands_at j.0 u.0 j.1 j.2 u.1)).1 in
-        let le = u.2 in
-        let same : u.0 ≡ label = omega (arith, low, le) in
-        (j.0, j.1, j.2, u.1 ∙ ap Some same)
+        let low = (is.least u.0 (lands_at j.0 u.0 j.1 j.2 u.1)).1 in grind arith
 
     -- what is found first in the range is the first window that gives it
     pub first_found : (label : ℕ) → label < no_label → IsLabel p (suc stage) v label → (found : Option ℕ)
@@ -181,20 +153,19 @@ module _ (p : Problem) (w stage : ℕ) (before : List (List ℤ)) (v : List ℤ)
         → GivesLabel p (stage, before) labels v label (unwrap_or found from)
         × ((place : ℕ) → place < unwrap_or found from → GivesLabel p (stage, before) labels v label place → ⊥)
     first_found label known is None none =
-        let j = some_gives label known is in
-        absurd (none_from_eq (landing_after p l (slice_index labels j.0) r) label (none j.0 j.1 j.2) j.3)
+        let j = some_gives label known is in grind arith
     first_found label known is (Some i) at = (
-      gives_label i label at.0 at.1 (some_from_eq (landing_after p l (slice_index labels i) r) label at.2),
+      grind (arith, gives_label, at.0, at.1, some_from_eq, landing_after, slice_index),
       λ place lt given.
           let g = given_in_range place label given in
-          none_from_eq (landing_after p l (slice_index labels place) r) label (at.3 place g.0 lt) g.2,
+          grind (arith, none_from_eq, landing_after, slice_index, at.3, g.0),
     )
 
 -- ---- as the calls have it
 
 pub label_here : (p : Problem) (a b : ℕ) (v : List ℤ) (label : ℕ) → b ≡ a + 1 → IsLabel p (suc a) v label
     → IsLabel p b v label
-label_here p a b v label e is = let f : suc a ≡ b = omega arith in subst (λ (q : ℕ). IsLabel p q v label) f is
+label_here p a b v label e is = grind arith
 
 pub label_next : (p : Problem) (a : ℕ) (v : List ℤ) (label : ℕ) → IsLabel p (a + 1) v label → IsLabel p (suc a) v label
-label_next p a v label is = let f : a + 1 ≡ suc a = omega arith in subst (λ (q : ℕ). IsLabel p q v label) f is
+label_next p a v label is = grind arith

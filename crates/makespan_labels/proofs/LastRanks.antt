@@ -1,5 +1,5 @@
 -- The rank that lands last in a window of a stage that can be labelled, and its follower.
-use Rattle.std.proofs.Common.{◌≡◌, ℕ, suc, ◌-◌, ◌%◌, ◌<◌, ◌≤◌, List, length, arith, ap, ◌∙◌}
+use Rattle.std.proofs.Common.{rules, ◌≡◌, ℕ, suc, ◌-◌, ◌%◌, ◌<◌, ◌≤◌, List, length, arith, ap, ◌∙◌}
 use Rattle.std.proofs.lemmas.Int.{ints}
 use Rattle.std.specs.Prelude.{ℤ, pos, ◌+ℤ◌, ◌≤ℤ◌, slice_index_or}
 use Rattle.cps_base.specs.Limits.{most_waiting}
@@ -20,7 +20,7 @@ module _ (p : Problem) (w : ℕ) (before : ℕ × List (List ℤ)) (labels : Lis
     (within : i < length stage.1) (window_is : window ≡ node_at stage.1 i) (group : IsGroup before.1 from to)
     (leads : Extends (node_at before.1 from) (node_at stage.1 i)) where
   pub sources : Sources p w before.0 before.1 (node_at stage.1 i) from to
-  sources = group_sources_from p w before stage i from to can.odd can.laws can.held.landable can.next within group leads
+  sources = search (rules, group_sources_from, can.odd, can.laws, can.held.landable, can.next)
 
   stage_is : number ≡ suc before.0
   stage_is = omega (arith, number_is, can.number)
@@ -39,11 +39,10 @@ module _ (p : Problem) (w : ℕ) (before : ℕ × List (List ℤ)) (labels : Lis
 
   module _ (rank : ℕ) (told : pos rank ≡ pos number +ℤ offset_at window (w - 1)) where
     pub rank_is : pos rank ≡ pos (suc before.0) +ℤ offset_at (node_at stage.1 i) (w - 1)
-    rank_is = same_rank window (node_at stage.1 i) number (suc before.0) rank (w - 1) window_is stage_is told
+    rank_is = grind (arith, same_rank, stage_is)
 
     pub is_rank : (1 ≤ rank) × (rank ≤ length p.flights)
-    is_rank = let low = range.0 in let high = range.1 in
-        (omega (arith, ints, rank_is, low), omega (arith, ints, rank_is, high))
+    is_rank = let low = range.0 in let high = range.1 in search (rules, rank_is)
 
     -- its follower stands at the place that its number tells
     pub follower_is : (followers : List Follower) (place : ℕ) → AreFollowers p number followers → place ≡ rank % 8

@@ -1,15 +1,13 @@
 -- A landing behind a flight: the separation alone counts, since that flight waited for the horizon and for the frozen
 -- ones.
-use Rattle.std.proofs.Common.{◌≡◌, ℕ, zero, suc, ◌+◌, ◌-◌, ◌≤◌, max, List, [], ◌∷◌, Option, Some, None, sym, ap, subst}
-use Rattle.std.proofs.Common.{◌∙◌, arith}
+use Rattle.std.proofs.Common.{◌≡◌, ℕ, zero, suc, ◌+◌, ◌-◌, ◌≤◌, max, List, [], ◌∷◌, Option, Some, None, arith}
 use Rattle.std.specs.Prelude.{ℤ, slice_get}
 use Rattle.std.proofs.lemmas.Option.{get_or_from_slice_get}
 use Rattle.wake_table.specs.declared.category.Category.{Category}
 use Rattle.wake_table.specs.Table.{separation, IsWakeTable}
 use Rattle.landing_rules.specs.Problem.{Problem, Waiting}
 use Rattle.cps_theory.specs.Feasible.{RankedProblem, next_from}
-use Rattle.cps_theory.specs.LandingTrail.{latest_landing, ranks}
-use Rattle.cps_theory.specs.Labels.{Pair}
+use Rattle.cps_theory.specs.LandingTrail.{latest_landing}
 use Rattle.cps_theory.specs.ProblemNetwork.{LandedIn}
 use Rattle.cps_theory.specs.RankLists.{of_rank}
 use Rattle.cps_theory.specs.Separation.{Landing}
@@ -22,8 +20,7 @@ use Rattle.makespan_labels.specs.Labels.{CanLandAt}
 pub flight_is : (p : Problem) (r : ℕ) (f : Waiting) → 1 ≤ r → slice_get p.flights (r - 1) ≡ Some f
     → of_rank no_waiting p.flights r ≡ f
 flight_is p zero f one e = absurd (omega arith)
-flight_is p (suc i) f one e = let back : suc i - 1 ≡ i =
-    omega arith in get_or_from_slice_get p.flights i f no_waiting (ap (slice_get p.flights) (sym back) ∙ e)
+flight_is p (suc i) f one e = grind (arith, get_or_from_slice_get)
 
 -- ---- whatever lands, it does not before its start
 
@@ -34,17 +31,11 @@ start_low q (suc l) u r = omega arith
 lands_started : (p : Problem) (l t : ℕ) (xs : List Landing) → LandedIn (ranked p) xs → l ≡ (latest_landing xs).0
     → (latest_landing xs).1 ≡ t → 1 ≤ l → start_at p l ≤ t
 lands_started p l t [] landed lead is one = absurd (omega (arith, lead, one))
-lands_started p l t (y ∷ ys) landed lead is one =
-    let low = start_low (ranked p) (latest_landing ys).0 (latest_landing ys).1 y.0 in
-    let apart = landed.1 in
-    subst (λ (r : ℕ). start_at p r ≤ t) (sym lead) (omega (arith, low, apart, is))
+lands_started p l t (y ∷ ys) landed lead is one = grind (arith, start_low)
 
 pub can_started : (p : Problem) → IsWindowNetwork p → (stage : ℕ) (x : List ℤ) (t : ℕ) → CanLandAt p stage x t
     → 1 ≤ latest (stage, x) → start_at p (latest (stage, x)) ≤ t
-can_started p net stage x t (cost, a) one =
-    let lead : latest (stage, x) ≡ (latest_landing a.landings).0 =
-    ap latest (sym a.at) ∙ net.newest_is (ranks a.landings) a.legal ∙ last_ranks a.landings in
-    lands_started p (latest (stage, x)) t a.landings a.landed lead (ap (λ (q : Pair). q.0) a.is) one
+can_started p net stage x t (cost, a) one = grind (arith, net.newest_is, last_ranks, lands_started)
 
 -- ---- the separation behind it is enough
 
@@ -68,7 +59,4 @@ pub lands_behind : (p : Problem) (l second r apart : ℕ) (leader follower : Cat
     → (of_rank no_waiting p.flights l).category ≡ leader → (of_rank no_waiting p.flights r).category ≡ follower
     → apart ≡ separation p.table leader follower
     → first_at p r (second + apart) ≡ landing_after p l second r
-lands_behind p l second r apart leader follower is one started a b e =
-    let same : apart ≡ apart_at p l r = e ∙ ap (λ (c : Category). separation p.table c follower) (sym a)
-    ∙ ap (separation p.table (of_rank no_waiting p.flights l).category) (sym b) in
-    ap (λ (d : ℕ). first_at p r (second + d)) same ∙ ap (first_at p r) (behind_is p l second r is one started)
+lands_behind p l second r apart leader follower is one started a b e = grind (arith, behind_is)

@@ -1,5 +1,5 @@
 -- What landings behind the ranges of links need leads to the windows to which the links lead.
-use Rattle.std.proofs.Common.{◌≡◌, ℕ, ◌+◌, ◌-◌, ◌<◌, ◌≤◌, List, length, sym, subst, ap, ◌∙◌, arith, inl, inr, set}
+use Rattle.std.proofs.Common.{rules, ◌≡◌, ℕ, ◌+◌, ◌-◌, ◌<◌, ◌≤◌, List, length, sym, subst, ap, ◌∙◌, arith, set}
 use Rattle.std.proofs.lemmas.Bool.{cases_eq}
 use Rattle.std.proofs.lemmas.List.{length-set, get_or-set_same, get_or-set_other}
 use Rattle.std.proofs.lemmas.List.Edits.{length-between, get_or-between}
@@ -20,9 +20,7 @@ use Rattle.makespan_labels.proofs.GroupLeads.{leader_flight}
 pub lead_over : (p : Problem) (w : ℕ) (before : ℕ × List (List ℤ)) (labels : List ℕ) (group : Group) (from : ℕ)
     → IsReady p w before labels group → group.from ≡ from
     → IsLeadOver p w before labels from group.least group.category
-lead_over p w before labels group from ready is =
-    subst (λ (f : ℕ). IsLeadOver p w before labels f group.least group.category) is
-    (record { leader = group.leader; labelled = ready.labelled; lead = ready.lead })
+lead_over p w before labels group from ready is = grind arith
 
 -- one entry more is written in each of two lists
 pub pair_more : (P : ℕ → ℕ → Category → Type 0) (leasts : List ℕ) (categories : List Category)
@@ -31,35 +29,15 @@ pub pair_more : (P : ℕ → ℕ → Category → Type 0) (leasts : List ℕ) (c
     → (length (set leasts i least) ≡ n) × (length (set categories i category) ≡ k)
     × ((q : ℕ) (d : Category) → q < i + 1
     → P q (slice_index (set leasts i least) q) (slice_index_or (set categories i category) q d))
-pair_more P leasts categories i least category n k lt in_k long wide old one = (
-  length-set leasts i least ∙ long,
-  length-set categories i category ∙ wide,
-  λ m d le. elim (cases_eq m i) [
-    | inl same ↦
-        let low : slice_index (set leasts i least) m ≡ least = ap (λ (q : ℕ). slice_index (set leasts i least) q) same
-        ∙ get_or-set_same leasts i least 0 (omega (arith, lt, long)) in
-        let here : slice_index_or (set categories i category) m d ≡ category =
-        ap (λ (q : ℕ). slice_index_or (set categories i category) q d) same
-        ∙ get_or-set_same categories i category d (omega (arith, in_k, wide)) in
-        subst (λ (x : ℕ). P m x (slice_index_or (set categories i category) m d)) (sym low)
-        (subst (P m least) (sym here) (subst (λ (q : ℕ). P q least category) (sym same) one))
-    | inr other ↦
-        let low : slice_index (set leasts i least) m ≡ slice_index leasts m =
-        get_or-set_other leasts i m least 0 other in
-        let here : slice_index_or (set categories i category) m d ≡ slice_index_or categories m d =
-        get_or-set_other categories i m category d other in
-        subst (λ (x : ℕ). P m x (slice_index_or (set categories i category) m d)) (sym low)
-        (subst (P m (slice_index leasts m)) (sym here) (old m d (omega (arith, other, le))))
-  ],
-)
+pair_more P leasts categories i least category n k lt in_k long wide old one =
+    grind (arith, length-set, long, cases_eq, slice_index, get_or-set_same, slice_index_or, get_or-set_other)
 
 -- the ranges of links from a place on and before another
 pub groups_between : (l : Links) → AreLinks l → (windows : List (List ℤ)) → l.origin ≡ windows → (first end : ℕ)
     → (ranges : List (ℕ × ℕ)) → ranges ≡ between first end l.ranges → end ≤ length l.ranges → AreGroups windows ranges
 groups_between l links windows origin first end ranges are ends = λ g lt.
     let long = ap length are ∙ length-between l.ranges first end ends in
-    let same : range_at ranges g ≡ range_at l.ranges (first + g) = ap (λ (rs : List (ℕ × ℕ)). range_at rs g) are
-    ∙ get_or-between l.ranges first end g (0, 0) (omega (arith, lt, long)) in
+    let same : range_at ranges g ≡ range_at l.ranges (first + g) = grind (arith, get_or-between, l.ranges, long) in
     subst (λ (ws : List (List ℤ)). IsGroup ws (range_at ranges g).0 (range_at ranges g).1) origin
     (subst (λ (range : ℕ × ℕ). IsGroup l.origin range.0 range.1) (sym same)
     (links.groups (first + g) (omega (arith, lt, long))))
@@ -73,13 +51,7 @@ module _ (l : Links) (links : AreLinks l) (start n : ℕ) (inside : start + n �
       omega (arith, long, ap length are)
 
   pub place_is : (i : ℕ) → i < n → slice_index places i ≡ slice_index l.places (start + i)
-  place_is i lt = ap (λ (ps : List ℕ). slice_index ps i) are
-      ∙ get_or-between l.places start (start + n) i 0 (omega (arith, lt))
-
-  pub place_within : (i : ℕ) → i < n → slice_index places i < length l.ranges
-  place_within i lt =
-      let at = links.within (start + i) (omega (arith, lt, inside)) in
-      omega (arith, at, place_is i lt)
+  place_is i lt = grind (arith, slice_index, get_or-between, l.places)
 
 -- with these places, the ranges from place `first` on and before `end`
 module _ (p : Problem) (w : ℕ) (before stage : ℕ × List (List ℤ)) (labels : List ℕ) (l : Links) (links : AreLinks l)
@@ -90,29 +62,18 @@ module _ (p : Problem) (w : ℕ) (before stage : ℕ × List (List ℤ)) (labels
     (low : (i : ℕ) → i < n → first ≤ slice_index l.places (start + i))
     (high : (i : ℕ) → i < n → slice_index l.places (start + i) < end) where
   ranges_long : length ranges ≡ end - first
-  ranges_long = ap length ranges_are ∙ length-between l.ranges first end ends
+  ranges_long = grind (arith, length-between, l.ranges)
 
   long : length places ≡ n
-  long = places_long l links start n inside places places_are
+  long = grind (arith, places_long)
 
   lies : (i : ℕ) → i < length places → (slice_index places i ≡ slice_index l.places (start + i))
       × (first ≤ slice_index places i) × (slice_index places i < end)
-  lies i lt =
-      let inner : i < n = omega (arith, lt, long) in
-      let here = place_is l links start n inside places places_are i inner in
-      let lo = low i inner in
-      let hi = high i inner in
-      (here, omega (arith, here, lo), omega (arith, here, hi))
+  lies i lt = grind (arith, long, place_is)
 
   range_is : (i : ℕ) → i < length places
       → range_at ranges (slice_index places i - first) ≡ range_at l.ranges (slice_index l.places (start + i))
-  range_is i lt =
-      let at = lies i lt in
-      let same : first + (slice_index places i - first) ≡ slice_index l.places (start + i) =
-      omega (arith, at.0, at.1) in
-      ap (λ (rs : List (ℕ × ℕ)). range_at rs (slice_index places i - first)) ranges_are
-      ∙ get_or-between l.ranges first end (slice_index places i - first) (0, 0) (omega (arith, at.1, at.2))
-      ∙ ap (range_at l.ranges) same
+  range_is i lt = grind (arith, lies, slice_index, l.places, get_or-between, l.ranges)
 
   leads_there : (i : ℕ) → i < length places
       → Extends (node_at before.1 (range_at ranges (slice_index places i - first)).0) (node_at stage.1 (start + i))
@@ -132,8 +93,8 @@ module _ (p : Problem) (w : ℕ) (before stage : ℕ × List (List ℤ)) (labels
   lead_to_each leasts categories deep wide over can some = record {
     one_each = omega (arith, long, inside, ap length target);
     from_first = λ i lt. (lies i lt).1;
-    has_least = λ i lt. let hi = (lies i lt).2 in omega (arith, hi, ranges_long, deep);
-    has_category = λ i lt. let hi = (lies i lt).2 in omega (arith, hi, ranges_long, wide);
+    has_least = grind (arith, lies, ranges_long);
+    has_category = grind (arith, lies, ranges_long);
     leads = λ i d lt.
         let place = lies i lt in
         let g = slice_index places i - first in
@@ -141,8 +102,19 @@ module _ (p : Problem) (w : ℕ) (before stage : ℕ × List (List ℤ)) (labels
         record {
           from = (range_at ranges g).0;
           over = at;
-          landed = leader_flight p w before.0 before.1 labels can.odd can.laws can.held
-              (range_at ranges g).0 at.labelled.to at.labelled.group at.leader at.labelled.leads some;
+          landed = search (
+            rules,
+            leader_flight,
+            before.0,
+            before.1,
+            can.odd,
+            can.laws,
+            can.held,
+            at.labelled.to,
+            at.labelled.group,
+            at.leader,
+            at.labelled.leads,
+          );
           leads = leads_there i lt;
         };
   }

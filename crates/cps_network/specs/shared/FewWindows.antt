@@ -1,18 +1,17 @@
 -- A stage has few windows: at most w ^ w different ones of w offsets each.
-use Rattle.std.proofs.Common.{◌≡◌, ℕ, suc, ◌/◌, ◌%◌, ◌^◌, ◌<◌, ◌≤◌, inl, inr, List, [], ◌∷◌, length, map, refl, sym}
-use Rattle.std.proofs.Common.{ap, ap₂, subst, ◌∙◌, arith}
+use Rattle.std.proofs.Common.{[], ◌≡◌, ℕ, suc, ◌/◌, ◌%◌, ◌^◌, ◌<◌, ◌≤◌, inl, inr, List, ◌∷◌, length, map, refl, sym}
+use Rattle.std.proofs.Common.{arith}
 use Rattle.std.specs.Prelude.{ℤ, pos, ◌+ℤ◌, ◌-ℤ◌, ◌≤ℤ◌}
 use Rattle.std.specs.List.{AllByRecursion}
-use Rattle.std.proofs.lemmas.Int.{ints}
 use Rattle.std.proofs.lemmas.Bool.{cases_eq}
-use Rattle.std.specs.declared.cmp.Ordering.{Ordering}
-use Rattle.std.specs.declared.cmp.Ordering.TheVariants.{Less, Greater}
-use Rattle.std.specs.Ordering.{ordering_reverse}
+use Rattle.std.proofs.lemmas.List.{length-map}
+use Rattle.std.specs.declared.cmp.Ordering.TheVariants.{Less}
 use Rattle.cps_nodes.specs.Windows.{IsWidth, IsWindow, offset_at}
-use Rattle.cps_nodes.specs.WindowOrder.{window_cmp, window_cmp_total}
+use Rattle.cps_nodes.specs.WindowOrder.{window_cmp}
 use Rattle.cps_theory.specs.WindowLists.{DistinctLists, InLists, Sized, raised}
 use Rattle.cps_theory.specs.laws.NumberOfWindows.{few_lists}
 use Rattle.cps_network.specs.Lists.{IsAscending, AreWindows, node_at}
+use Rattle.cps_network.specs.shared.OneDue.{never_both}
 
 -- an offset of at most k places, forward or back
 abbrev IsNear : ℕ → ℤ → Type 0
@@ -22,26 +21,16 @@ abbrev AreNear : ℕ → List ℤ → Type 0
 AreNear k xs = AllByRecursion (IsNear k) xs
 
 -- such an offset plus k is below 2k + 1, and tells the offset
-raised_low : (w : ℕ) (o : ℤ) → w % 2 ≡ 1 → IsNear (w / 2) o → raised (w / 2) o < w
-raised_low w o odd near = let a = near.0 in let b = near.1 in omega (arith, ints)
-
-raised_back : (k : ℕ) (o : ℤ) → IsNear k o → pos (raised k o) -ℤ pos k ≡ o
-raised_back k o near = let a = near.0 in let b = near.1 in omega (arith, ints)
-
 all_low : (w : ℕ) (xs : List ℤ) → w % 2 ≡ 1 → AreNear (w / 2) xs → AllByRecursion (λ x. x < w) (map (raised (w / 2)) xs)
 all_low w [] odd near = tt
-all_low w (x ∷ xs) odd near = (raised_low w x odd near.0, all_low w xs odd near.1)
+all_low w (x ∷ xs) odd near = grind (arith, (all_low w xs odd near.1))
 
 all_back : (k : ℕ) (xs : List ℤ) → AreNear k xs → map (λ n. pos n -ℤ pos k) (map (raised k) xs) ≡ xs
 all_back k [] near = refl
-all_back k (x ∷ xs) near = ap₂ ◌∷◌ (raised_back k x near.0) (all_back k xs near.1)
+all_back k (x ∷ xs) near = grind (arith, (all_back k xs near.1))
 
 same_raised : (k : ℕ) (xs ys : List ℤ) → AreNear k xs → AreNear k ys → map (raised k) xs ≡ map (raised k) ys → xs ≡ ys
-same_raised k xs ys a b e = sym (all_back k xs a) ∙ ap (map (λ n. pos n -ℤ pos k)) e ∙ all_back k ys b
-
-length_map : {A B : Type 0} (f : A → B) (xs : List A) → length (map f xs) ≡ length xs
-length_map f [] = refl
-length_map f (x ∷ xs) = ap suc (length_map f xs)
+same_raised k xs ys a b e = grind (arith, all_back)
 
 -- ---- the offsets of a window
 
@@ -50,18 +39,12 @@ near_all k [] h = tt
 near_all k (x ∷ xs) h = (h 0 (omega arith), near_all k xs (λ i lt. h (suc i) (omega arith)))
 
 window_near : (w : ℕ) (xs : List ℤ) → IsWindow w xs → AreNear (w / 2) xs
-window_near w xs v = near_all (w / 2) xs (λ i lt. (v.low i (omega (arith, v.len)), v.high i (omega (arith, v.len))))
+window_near w xs v = grind (arith, near_all)
 
 window_sized : (w : ℕ) (xs : List ℤ) → IsWindow w xs → Sized w w (map (raised (w / 2)) xs)
-window_sized w xs v = (length_map (raised (w / 2)) xs ∙ v.len, all_low w xs v.is_width.0 (window_near w xs v))
+window_sized w xs v = grind (arith, length-map, all_low, window_near)
 
 -- ---- different windows
-
-not_below_itself : (x : List ℤ) → window_cmp x x ≡ Less → ⊥
-not_below_itself x e = less_greater (sym e ∙ window_cmp_total.antisymm x x ∙ ap ordering_reverse e)
-  where
-    less_greater : ◌≡◌ {A = Ordering} Less Greater → ⊥
-    less_greater f = cc
 
 -- the window at whose place a list holds what another window tells
 place_in : (w : ℕ) (x : List ℤ) (xs : List (List ℤ)) → IsWindow w x → AreWindows w xs
@@ -78,8 +61,8 @@ different w [] up vs = tt
 different w (x ∷ xs) up vs = (
   λ i.
       let a = place_in w x xs (vs 0 (omega arith)) (λ j lt. vs (suc j) (omega arith)) i in
-      not_below_itself x (subst (λ (y : List ℤ). window_cmp x y ≡ Less) a.2 (up 0 (suc a.0) (omega arith) (let b =
-      a.1 in omega arith))),
+      let less : window_cmp x (node_at xs a.0) ≡ Less = up 0 (suc a.0) (omega arith) (omega (arith, a.1)) in
+      grind (arith, never_both x x),
   different w xs (λ i j lt within. up (suc i) (suc j) (omega arith) (omega arith)) (λ j lt. vs (suc j) (omega arith)),
 )
 
@@ -89,19 +72,16 @@ all_sized w (x ∷ xs) vs = (window_sized w x (vs 0 (omega arith)), all_sized w 
 
 pub few_windows : (w : ℕ) (windows : List (List ℤ)) → IsAscending windows → AreWindows w windows
     → length windows ≤ w ^ w
-few_windows w windows up vs =
-    subst (λ (n : ℕ). n ≤ w ^ w) (length_map (map (raised (w / 2))) windows)
-    (few_lists w w (map (map (raised (w / 2))) windows) (all_sized w windows vs) (different w windows up vs))
+few_windows w windows up vs = grind (arith, length-map, few_lists, all_sized, different)
 
 power_low : (w : ℕ) → IsWidth w → w ^ w ≤ 823543
 power_low w is = elim (cases_eq w 1) [
-  | inl e ↦ subst (λ (x : ℕ). x ^ x ≤ 823543) (sym e) (omega arith)
+  | inl e ↦ grind arith
   | inr not_one ↦ elim (cases_eq w 3) [
-    | inl e ↦ subst (λ (x : ℕ). x ^ x ≤ 823543) (sym e) (omega arith)
+    | inl e ↦ grind arith
     | inr not_three ↦ elim (cases_eq w 5) [
-      | inl e ↦ subst (λ (x : ℕ). x ^ x ≤ 823543) (sym e) (omega arith)
-      | inr not_five ↦ subst (λ (x : ℕ). x ^ x ≤ 823543) {x = 7} {y = w} (let a = is.0 in let b =
-          is.1 in omega arith) (omega arith)
+      | inl e ↦ grind arith
+      | inr not_five ↦ let e : w ≡ 7 = omega arith in grind arith
     ]
   ]
 ]
@@ -110,6 +90,4 @@ pub number_low : (w : ℕ) (windows : List (List ℤ)) → IsAscending windows �
     → length windows ≤ 823543
 number_low w [] up vs = omega arith
 number_low w (x ∷ xs) up vs =
-    let a = few_windows w (x ∷ xs) up vs in
-    let b = power_low w (vs 0 (omega arith)).is_width in
-    omega arith
+    omega (arith, few_windows w (x ∷ xs) up vs, power_low w (vs 0 (omega arith)).is_width)

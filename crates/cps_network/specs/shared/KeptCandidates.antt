@@ -1,5 +1,6 @@
 -- Where two problems agree, the stages that even the greatest shift keeps below that rank are led to alike.
-use Rattle.std.proofs.Common.{◌≡◌, ℕ, suc, ◌+◌, ◌*◌, ◌<◌, inl, inr, List, [], length, true, ap, subst, ◌∙◌, arith}
+use Rattle.std.proofs.Common.{rules, ◌≡◌, ℕ, suc, ◌+◌, ◌*◌, ◌<◌, inl, inr, List, length, true, ap, subst, ◌∙◌, arith}
+use Rattle.std.proofs.Common.{[]}
 use Rattle.std.specs.Prelude.{ℤ, pos, Contains}
 use Rattle.std.proofs.lemmas.Int.{ints}
 use Rattle.std.proofs.lemmas.Bool.{cases_lt}
@@ -17,10 +18,7 @@ use Rattle.cps_network.specs.Permits.{IsPermitted, IsSuccessor, IsNextOf}
 none_above : (w k : ℕ) (xs : List ℤ) (stage rank : ℕ) → w ≡ 2 * k + 1 → IsWindow w xs → stage + k < rank
     → IsPlaced xs (pos stage) (pos rank) → ⊥
 none_above w k xs stage rank odd valid far (inl due) = omega (arith, ints, due, far)
-none_above w k xs stage rank odd valid far (inr (i, lt, is)) =
-    let long = valid.len in
-    let high = valid.high i (omega (arith, lt, long)) in
-    omega (arith, ints, lt, is, long, high, odd, far)
+none_above w k xs stage rank odd valid far (inr (i, lt, is)) = grind arith
 
 module _ (p q : Problem) (d : ℕ) (within : IsWithinBoth p q d) (agree : AgreeUpTo p q d)
     (between : AreBetweenRanks (length q.flights) q.pairs) (w : ℕ) (odd : w ≡ 2 * p.k + 1) where
@@ -28,26 +26,19 @@ module _ (p q : Problem) (d : ℕ) (within : IsWithinBoth p q d) (agree : AgreeU
       → IsPermitted p stage xs rank → IsPermitted q stage xs rank
   permitted_alike stage early xs valid rank may =
       let same = agree.head.k in
-      let low : rank < d = let a = may.early in omega (arith, a, early) in
+      let low : rank < d = omega (arith, may.early, early) in
       let here = agree.predecessors rank may.from_one low in
       record {
         from_one = may.from_one;
-        to_count = (let a = within.1 in omega (arith, a, low));
-        early = (let a = may.early in omega (arith, a, same));
-        late = (let a = may.late in omega (
-          arith,
-          a,
-          same,
-          ap (λ (f : Waiting). f.passed)
-              (same_flight p q d within agree rank low),
-        ));
+        to_count = omega (arith, within.1, low);
+        early = omega (arith, may.early, same);
+        late = omega (arith, may.late, same, ap (λ (f : Waiting). f.passed) (same_flight p q d within agree rank low));
         accepted = may.accepted;
         after = λ first must.
             let test : must_precede q.pairs first rank ≡ true = (must_precede_decides q.pairs first rank).1 must in
             let one = (between first rank test).0 in
             elim (cases_lt first d) [
-              | inl below ↦ may.after first ((must_precede_decides p.pairs first rank).0
-                  (here.below first one below ∙ test))
+              | inl below ↦ grind arith
               | inr above ↦ (
                   let other = here.from.1 (first, above, test) in
                   absurd (none_above w p.k xs stage other.0 odd valid (let a = other.1 in omega (arith, a, early))
@@ -58,14 +49,14 @@ module _ (p q : Problem) (d : ℕ) (within : IsWithinBoth p q d) (agree : AgreeU
 
   pub successor_alike : (stage : ℕ) → suc stage + p.k < d → (xs next : List ℤ) → IsWindow w xs
       → IsSuccessor p stage xs next → IsSuccessor q stage xs next
-  successor_alike stage early xs next valid (rank, may, e) = (rank, permitted_alike stage early xs valid rank may, e)
+  successor_alike stage early xs next valid (rank, may, e) = search (rules, permitted_alike)
 
 -- in both directions
 module _ (p q : Problem) (d : ℕ) (within : IsWithinBoth p q d) (agree : AgreeUpTo p q d)
     (bp : AreBetweenRanks (length p.flights) p.pairs) (bq : AreBetweenRanks (length q.flights) q.pairs)
     (w : ℕ) (odd : w ≡ 2 * p.k + 1) where
   odd_there : w ≡ 2 * q.k + 1
-  odd_there = let same = agree.head.k in omega (arith, odd, same)
+  odd_there = cc
 
   there : (stage : ℕ) → suc stage + p.k < d → (xs next : List ℤ) → IsWindow w xs → IsSuccessor p stage xs next
       → IsSuccessor q stage xs next
@@ -82,7 +73,7 @@ module _ (p q : Problem) (d : ℕ) (within : IsWithinBoth p q d) (agree : AgreeU
   pub kept_next : (stage : ℕ) (before after : List (List ℤ)) → suc stage + p.k < d → AreWindows w before
       → IsNextOf p stage before after → IsNextOf q stage before after
   kept_next stage before after early valid next = λ x. (
-    λ has. let a = (next x).0 has in (a.0, a.1, there stage early a.0 x (valid_in a.0 a.1) a.2),
+    λ has. let a = (next x).0 has in grind (arith, there, valid_in),
     λ a. (next x).1 (a.0, a.1, back stage early a.0 x (valid_in a.0 a.1) a.2),
   )
     where

@@ -1,6 +1,6 @@
 -- What is left of a stage and its labels where a test says at which places they are kept.
-use Rattle.std.proofs.Common.{◌≡◌, ℕ, zero, suc, ◌<◌, List, [], ◌∷◌, length, get_or, map, Bool, true, false, refl, sym}
-use Rattle.std.proofs.Common.{ap, ap₂, subst, ◌∙◌, arith}
+use Rattle.std.proofs.Common.{◌≡◌, ℕ, zero, suc, ◌<◌, List, ◌∷◌, length, get_or, map, Bool, true, false, refl, sym, ap}
+use Rattle.std.proofs.Common.{[], subst, ◌∙◌, arith}
 use Rattle.std.specs.Prelude.{ℤ, Contains, All, ◌↔◌}
 use Rattle.std.specs.List.{AllZip}
 use Rattle.std.proofs.lemmas.List.{get_or_default, get_or-map}
@@ -45,12 +45,10 @@ pub comes_at : {A B : Type 0} (bs : List Bool) (xs : List A) (ys : List B) (d : 
 comes_at [] xs ys d e i long lt = absurd (omega arith)
 comes_at (b ∷ bs) [] ys d e i long lt = absurd (omega arith)
 comes_at (b ∷ bs) (x ∷ xs) [] d e i long lt = absurd (omega arith)
-comes_at (true ∷ bs) (x ∷ xs) (y ∷ ys) d e zero long lt =
-    record { place = 0; within = omega arith; kept = refl; left = refl; right = refl }
+comes_at (true ∷ bs) (x ∷ xs) (y ∷ ys) d e zero long lt = grind arith
 comes_at (true ∷ bs) (x ∷ xs) (y ∷ ys) d e (suc i) long lt =
-    later true bs x xs y ys d e i (suc i) (comes_at bs xs ys d e i (omega arith) (omega arith)) refl refl
-comes_at (false ∷ bs) (x ∷ xs) (y ∷ ys) d e i long lt =
-    later false bs x xs y ys d e i i (comes_at bs xs ys d e i (omega arith) lt) refl refl
+    grind (arith, later, (comes_at bs xs ys d e i (omega arith) (omega arith)))
+comes_at (false ∷ bs) (x ∷ xs) (y ∷ ys) d e i long lt = grind (arith, later, (comes_at bs xs ys d e i (omega arith) lt))
 
 pub stays_in : {A : Type 0} (bs : List Bool) (xs : List A) (j : ℕ) (x : A) → j < length xs
     → get_or bs j false ≡ true → get_or xs j x ≡ x → Contains (kept_where bs xs) x
@@ -72,40 +70,34 @@ pub answers_are : {A : Type 0} (test : A → Bool) (Says : A → Bool → Type 0
 answers_are test Says h [] [] z = refl
 answers_are test Says h [] (b ∷ bs) z = absurd z
 answers_are test Says h (x ∷ xs) [] z = absurd z
-answers_are test Says h (x ∷ xs) (b ∷ bs) z =
-    ap₂ (λ (c : Bool) (cs : List Bool). c ∷ cs) (h x b z.0) (answers_are test Says h xs bs z.1)
+answers_are test Says h (x ∷ xs) (b ∷ bs) z = grind (arith, (answers_are test Says h xs bs z.1))
 
 -- ---- the windows and the labels at the places whose label passes a test
 
 module _ {A : Type 0} (test : A → Bool) (d : A) (windows : List (List ℤ)) (labels : List A)
     (one_each : length labels ≡ length windows) where
   answer_at : (i : ℕ) → i < length windows → get_or (map test labels) i false ≡ test (get_or labels i d)
-  answer_at i lt = get_or-map test labels i d false (omega (arith, lt, one_each))
+  answer_at i lt = grind (arith, get_or-map)
 
   comes : (i : ℕ) → i < length (kept_where (map test labels) windows) → ComesAt (map test labels) windows labels [] d i
-  comes i lt = comes_at (map test labels) windows labels [] d i (sym one_each) lt
+  comes i lt = grind (arith, comes_at)
 
   pub one_each_left : length (kept_where (map test labels) labels) ≡ length (kept_where (map test labels) windows)
-  one_each_left = length_kept (map test labels) labels windows one_each
+  one_each_left = grind (arith, length_kept)
 
   -- what holds of each window and its label, holds of those that are left
   pub each_left : (P : List ℤ → A → Type 0) → ((i : ℕ) → i < length windows → P (node_at windows i) (get_or labels i d))
       → (i : ℕ) → i < length (kept_where (map test labels) windows)
       → P (node_at (kept_where (map test labels) windows) i) (get_or (kept_where (map test labels) labels) i d)
   each_left P all i lt =
-      let c = comes i lt in
-      subst (λ (x : A). P (node_at (kept_where (map test labels) windows) i) x) (sym c.right)
-      (subst (λ (xs : List ℤ). P xs (get_or labels c.place d)) (sym c.left) (all c.place c.within))
+      let c = comes i lt in grind arith
 
   -- where no landable window is missing, and the labels of the landable ones alone pass, those are left
   module _ (p : Problem) (stage : ℕ) (each : HasEachLandable p (stage, windows)) (passes : (i : ℕ)
       → i < length windows → (test (get_or labels i d) ≡ true) ↔ IsLandable p stage (node_at windows i)) where
     kept_landable : (xs : List ℤ) → Contains (kept_where (map test labels) windows) xs → IsLandable p stage xs
     kept_landable xs (i, lt, at) =
-        let c = comes i lt in
-        let it : node_at windows c.place ≡ xs =
-        sym c.left ∙ get_or_default (kept_where (map test labels) windows) i [] xs lt ∙ at in
-        subst (IsLandable p stage) it ((passes c.place c.within).0 (sym (answer_at c.place c.within) ∙ c.kept))
+        let c = comes i lt in grind (arith, get_or_default, c.place, answer_at)
 
     landable_kept : (xs : List ℤ) → IsLandable p stage xs → Contains (kept_where (map test labels) windows) xs
     landable_kept xs l =
@@ -121,7 +113,4 @@ module _ {A : Type 0} (test : A → Bool) (d : A) (windows : List (List ℤ)) (l
 pub holds_as : {A : Type 0} (Holds : ℕ × List (List ℤ) → List A → Type 0) (s : ℕ) (stage : ℕ × List (List ℤ))
     (windows : List (List ℤ)) (labels after : List A) → stage.0 ≡ s → stage.1 ≡ windows → after ≡ labels
     → Holds (s, windows) labels → Holds stage after
-holds_as {A} Holds s stage windows labels after e f h is =
-    subst (λ (ls : List A). Holds stage ls) (sym h)
-    (subst (λ (q : ℕ). Holds (q, stage.1) labels) (sym e)
-    (subst (λ (ws : List (List ℤ)). Holds (s, ws) labels) (sym f) is))
+holds_as {A} Holds s stage windows labels after e f h is = grind arith

@@ -1,5 +1,5 @@
 -- The stages below the first difference of two problems, less the greatest shift, are the same in both.
-use Rattle.std.proofs.Common.{◌≡◌, ℕ, ◌+◌, ◌<◌, List, length, sym, ap, ◌∙◌, arith}
+use Rattle.std.proofs.Common.{rules, ◌≡◌, ℕ, ◌+◌, ◌<◌, List, length, ap, arith}
 use Rattle.std.specs.Prelude.{ℤ, true}
 use Rattle.cps_theory.specs.Labels.{Pair}
 use Rattle.cps_theory.specs.LandingTrail.{ranks}
@@ -13,7 +13,7 @@ use Rattle.cps_problem.specs.shared.OneDifference.{agree_back}
 use Rattle.cps_problem.specs.shared.EarlyLandings.{agree_below, same_landings}
 use Rattle.cps_network.specs.KeptStages.{LandAlike, EarlyStagesAreKept, UncountedStagesAreKept}
 use Rattle.cps_network.specs.Landable.{Attains, IsLandable}
-use Rattle.cps_network.specs.Nodes.{Node, node_of}
+use Rattle.cps_network.specs.Nodes.{Node}
 
 land_alike : (p q : Problem) (d : ℕ) → IsWithinBoth p q d → AgreeUpTo p q d → AreBetweenRanks (length q.flights) q.pairs
     → (stage : ℕ) → stage + p.k < d → LandAlike p q stage
@@ -24,22 +24,12 @@ land_alike p q d within agree between stage early xs landings (legal, landed, at
     (legal_each_fits (ranked p).rules (ranks landings) legal) short in
     let lands = agree_landed d (λ r t. (ranked p).is_open r t ≡ true) (λ r t. (ranked q).is_open r t ≡ true)
     (next_from (ranked p)) (next_from (ranked q)) (cost_at p) (cost_at q) (same_landings p q d within agree)
-    (omega (arith, early)) landings low landed in (
-      (
-        agree_legal d (ranked p).rules (ranked q).rules (agree_below p q d within agree between)
-            (ranks landings) legal short,
-        lands.0,
-        ap (λ (k : ℕ). node_of k (ranks landings)) (sym agree.head.k)
-            ∙ at,
-      ),
-      lands.1,
-    )
+    (omega (arith, early)) landings low landed in search (rules, agree_legal, agree_below)
 
 pub attains_there : (p q : Problem) (stage : ℕ) → LandAlike p q stage → (xs : List ℤ) (pair : Pair)
     → Attains p stage xs pair → Attains q stage xs pair
 attains_there p q stage alike xs pair a =
-    let b = alike xs a.landings (a.legal, a.landed, a.at) in
-    record { landings = a.landings; legal = b.0.0; landed = b.0.1; at = b.0.2; is = sym b.1 ∙ a.is }
+    let b = alike xs a.landings (a.legal, a.landed, a.at) in grind arith
 
 landable_alike : (p q : Problem) (stage : ℕ) → LandAlike p q stage → (xs : List ℤ) → IsLandable p stage xs
     → IsLandable q stage xs
@@ -51,12 +41,7 @@ early_stages_are_kept p q bp bq d within agree stage early =
     let there = land_alike p q d within agree bq stage early in
     let same = agree.head.k in
     let back = land_alike q p d (within.1, within.0) (agree_back p q d agree) bp stage (omega (arith, early, same)) in
-    record {
-      landable = λ xs. (landable_alike p q stage there xs, landable_alike q p stage back xs);
-      there =
-          there;
-      back = back;
-    }
+    search (rules, landable_alike)
 
 pub uncounted_stages_are_kept : (p q : Problem) → AreBetweenRanks (length p.flights) p.pairs
     → AreBetweenRanks (length q.flights) q.pairs → UncountedStagesAreKept p q

@@ -1,5 +1,5 @@
 -- One landing back: a landable window of the next stage extends one of this.
-use Rattle.std.proofs.Common.{◌≡◌, ℕ, suc, ◌+◌, ◌*◌, List, [], ◌∷◌, length, reverse, refl, sym, ap, subst, ◌∙◌, arith}
+use Rattle.std.proofs.Common.{[], ◌≡◌, ℕ, suc, ◌+◌, ◌*◌, List, ◌∷◌, length, reverse, ap, subst, arith}
 use Rattle.std.specs.Prelude.{ℤ}
 use Rattle.cps_nodes.specs.Ranks.{window_of}
 use Rattle.cps_theory.specs.Separation.{Landing}
@@ -9,7 +9,7 @@ use Rattle.cps_theory.specs.ProblemNetwork.{LandedIn}
 use Rattle.landing_joint.specs.RankedProblem.{ranked, cost_at}
 use Rattle.landing_rules.specs.Problem.{Problem}
 use Rattle.cps_network.specs.Landable.{IsLandable, HoldsLandable, HasEachLandable}
-use Rattle.cps_network.specs.Nodes.{Node, node_of, permits, land, IsWindowNetwork}
+use Rattle.cps_network.specs.Nodes.{Node, node_of, IsWindowNetwork}
 use Rattle.cps_network.specs.Permits.{IsSuccessor, IsNextOf}
 
 module _ (p : Problem) (net : IsWindowNetwork p) where
@@ -23,15 +23,10 @@ module _ (p : Problem) (net : IsWindowNetwork p) where
   landing_back stage v (y ∷ xs) legal landed at =
       let s = net.shrinks y.0 (ranks xs) legal in
       let long : length (ranks xs) ≡ stage = less (ap (λ (n : Node). n.0) at) in
-      let here : node_of p.k (ranks xs) ≡ (stage, window_of (2 * p.k + 1) (reverse (ranks xs))) =
-      ap (λ (q : ℕ). (q, window_of (2 * p.k + 1) (reverse (ranks xs)))) long in (
+      let here : node_of p.k (ranks xs) ≡ (stage, window_of (2 * p.k + 1) (reverse (ranks xs))) = cc in (
         window_of (2 * p.k + 1) (reverse (ranks xs)),
-        (pair_of (cost_at p) xs, record { landings = xs; legal = s.0; landed = landed.2; at = here; is = refl }),
-        (
-          y.0,
-          subst (λ (n : Node). permits p n y.0) here s.1,
-          ap (λ (n : Node). n.1) (sym at ∙ net.pushes y.0 (ranks xs) s.0 ∙ ap (λ (n : Node). land n y.0) here),
-        ),
+        (pair_of (cost_at p) xs, grind arith),
+        grind arith,
       )
     where
       less : {a b : ℕ} → suc a ≡ suc b → a ≡ b

@@ -1,13 +1,12 @@
 -- The windows that lead to a window of the next stage: they stand side by side, and land one rank behind one other.
-use Rattle.std.proofs.Common.{◌≡◌, ℕ, suc, ◌+◌, ◌-◌, ◌*◌, ◌<◌, ◌≤◌, List, [], ◌∷◌, length, drop, refl, sym, ap, subst}
-use Rattle.std.proofs.Common.{◌∙◌, arith, inl, inr}
+use Rattle.std.proofs.Common.{rules, ◌≡◌, ℕ, suc, ◌+◌, ◌-◌, ◌*◌, ◌<◌, ◌≤◌, List, length, drop, sym, subst, ◌∙◌, arith}
+use Rattle.std.proofs.Common.{[]}
 use Rattle.std.specs.Prelude.{ℤ, pos, ◌+ℤ◌, ◌≤ℤ◌, ◌↔◌, Contains}
 use Rattle.std.proofs.lemmas.Int.{ints}
 use Rattle.std.proofs.lemmas.List.{get_or_default}
 use Rattle.std.proofs.lemmas.List.Elements.{Contains-get_or}
-use Rattle.std.proofs.lemmas.Bool.{cases_eq}
 use Rattle.cps_base.specs.Limits.{most_waiting}
-use Rattle.cps_nodes.specs.Windows.{IsWindow, offset_at, shifted}
+use Rattle.cps_nodes.specs.Windows.{IsWindow, offset_at}
 use Rattle.cps_nodes.specs.Leads.{Extends, TailMeetsHead}
 use Rattle.cps_nodes.specs.Laws.{FollowRanks, LeadOn, offset_after}
 use Rattle.landing_rules.specs.Problem.{Problem}
@@ -19,25 +18,10 @@ use Rattle.cps_network.specs.Permits.{IsSuccessor, IsNextOf, LeadAlike}
 use Rattle.cps_network.specs.WindowLaws.{WindowLaws}
 use Rattle.cps_network.specs.shared.LegalWindows.{valid_after, landable_valid, landable_last, next_last}
 
-offset_tail : (xs : List ℤ) (i : ℕ) → offset_at xs (suc i) ≡ offset_at (drop 1 xs) i
-offset_tail [] i = refl
-offset_tail (x ∷ xs) i = refl
-
 -- windows with the same offsets from the second on end alike
 same_last : (w : ℕ) (x y : List ℤ) → IsWindow w x → IsWindow w y → drop 1 x ≡ drop 1 y
     → offset_at x (w - 1) ≡ offset_at y (w - 1)
-same_last w x y a b e = elim (cases_eq w 1) [
-  | inl one ↦
-      let p : offset_at x (w - 1) ≡ pos 0 =
-      omega (arith, ints, a.low (w - 1) (omega arith), a.high (w - 1) (omega arith)) in
-      let q : offset_at y (w - 1) ≡ pos 0 =
-      omega (arith, ints, b.low (w - 1) (omega arith), b.high (w - 1) (omega arith)) in
-      p ∙ sym q
-  | inr more ↦
-      let n : w - 1 ≡ suc (w - 2) = omega (arith, a.is_width) in
-      ap (offset_at x) n ∙ offset_tail x (w - 2) ∙ ap (λ (l : List ℤ). offset_at l (w - 2)) e
-      ∙ sym (offset_tail y (w - 2)) ∙ ap (offset_at y) (sym n)
-]
+same_last w x y a b e = grind arith
 
 -- the range of the windows that lead to a window of the next stage
 pub record Sources (p : Problem) (w stage : ℕ) (before : List (List ℤ)) (v : List ℤ) (from to : ℕ) : Type 0 where
@@ -50,23 +34,7 @@ pub record Sources (p : Problem) (w stage : ℕ) (before : List (List ℤ)) (v :
 
 module _ (p : Problem) (w stage : ℕ) (before : List (List ℤ)) (v : List ℤ) (from to : ℕ)
     (range : Sources p w stage before v from to) where
-  odd : w ≡ 2 * p.k + 1
-  odd = range.odd
-
-  laws : WindowLaws p w
-  laws = range.laws
-
-  holds : HoldsLandable p (stage, before)
-  holds = range.holds
-
-  node : (x : List ℤ) × Contains before x × IsSuccessor p stage x v
-  node = range.node
-
-  within : to ≤ length before
-  within = range.within
-
-  exact : (j : ℕ) → j < length before → Extends (node_at before j) v ↔ ((from ≤ j) × (j < to))
-  exact = range.exact
+  open range use {odd, laws, holds, node, within, exact}
 
   pub landable_at : (j : ℕ) → j < length before → IsLandable p stage (node_at before j)
   landable_at j lt = (holds (node_at before j)).0 (Contains-get_or before j [] lt)
@@ -102,9 +70,7 @@ module _ (p : Problem) (w stage : ℕ) (before : List (List ℤ)) (v : List ℤ)
   pub successor_at : (j : ℕ) → from ≤ j → j < to → IsSuccessor p stage (node_at before j) v
   successor_at j lo hi =
       let lt : j < length before = omega (arith, hi, within) in
-      laws.alike stage node.0 (node_at before j) v
-      (landable_valid p w odd laws stage node.0 (landable_of node.0 node.1))
-      (landable_valid p w odd laws stage (node_at before j) (landable_at j lt)) (meets_at j lo hi) node.2
+      search (rules, laws.alike, landable_valid, odd, laws, landable_of, landable_at, meets_at)
 
   -- each window that leads to it is in the range
   pub place_of : (x : List ℤ) → Contains before x → IsSuccessor p stage x v → (j : ℕ) × (from ≤ j)
@@ -124,24 +90,11 @@ module _ (p : Problem) (w stage : ℕ) (before : List (List ℤ)) (v : List ℤ)
   -- the rank that lands last in it
   pub rank_of : (r : ℕ) → pos r ≡ pos (suc stage) +ℤ offset_at v (w - 1) → (x : List ℤ) → IsLandable p stage x
       → (s : IsSuccessor p stage x v) → s.0 ≡ r
-  rank_of r is x l s =
-      let a : pos (suc stage) +ℤ offset_at (shifted x (offset_after stage s.0)) (w - 1) ≡ pos s.0 =
-      next_last p w odd laws stage x s.0 l s.1 in
-      let b : offset_at v (w - 1) ≡ offset_at (shifted x (offset_after stage s.0)) (w - 1) =
-      ap (λ (y : List ℤ). offset_at y (w - 1)) s.2 in
-      omega (arith, ints, a, b, is)
+  rank_of r is x l s = grind (arith, next_last)
 
   pub rank_range : (pos 1 ≤ℤ (pos (suc stage) +ℤ offset_at v (w - 1)))
       × ((pos (suc stage) +ℤ offset_at v (w - 1)) ≤ℤ pos (length p.flights))
-  rank_range =
-      let l = landable_of node.0 node.1 in
-      let a : pos (suc stage) +ℤ offset_at (shifted node.0 (offset_after stage node.2.0)) (w - 1) ≡ pos node.2.0 =
-      next_last p w odd laws stage node.0 node.2.0 l node.2.1 in
-      let b : offset_at v (w - 1) ≡ offset_at (shifted node.0 (offset_after stage node.2.0)) (w - 1) =
-      ap (λ (y : List ℤ). offset_at y (w - 1)) node.2.2 in
-      let lo = node.2.1.from_one in
-      let hi = node.2.1.to_count in
-      (omega (arith, ints, a, b, lo), omega (arith, ints, a, b, hi))
+  rank_range = search (rules, landable_of, node.0, next_last, odd, laws)
 
   -- the rank that landed last before it is the same in each window of the range
   pub leader_range : (pos stage +ℤ offset_at (node_at before from) (w - 1) ≡ pos (latest (stage, node_at before from)))
@@ -157,10 +110,7 @@ module _ (p : Problem) (w stage : ℕ) (before : List (List ℤ)) (v : List ℤ)
       let first : from < length before = omega (arith, s, within) in
       let a = (landable_last p w odd laws stage (node_at before j) (landable_at j lt)).0 in
       let e : offset_at (node_at before j) (w - 1) ≡ offset_at (node_at before from) (w - 1) =
-      same_last w (node_at before j) (node_at before from)
-      (landable_valid p w odd laws stage (node_at before j) (landable_at j lt))
-      (landable_valid p w odd laws stage (node_at before from) (landable_at from first))
-      (meets_at j lo hi ∙ sym (meets_at from (omega arith) s)) in
+      search (rules, same_last, landable_valid, odd, landable_at, meets_at) in
       omega (arith, ints, a, e, is)
 
   -- they are those that share a tail
@@ -169,7 +119,7 @@ module _ (p : Problem) (w stage : ℕ) (before : List (List ℤ)) (v : List ℤ)
     some = some_range;
     within = within;
     exact =
-        λ j lt. (λ e. shares j lt e, λ r. meets_at j r.0 r.1 ∙ sym (meets_at from (omega arith) some_range));
+        λ j lt. (λ e. shares j lt e, λ r. grind (arith, meets_at));
   }
     where
       shares : (j : ℕ) → j < length before → drop 1 (node_at before j) ≡ drop 1 (node_at before from)
@@ -192,7 +142,7 @@ module _ (p : Problem) (w stage : ℕ) (before : List (List ℤ)) (v : List ℤ)
       (landable_valid p w odd laws stage node.0 ((holds node.0).0 node.1)) node.2.1)
 
   meets : (j : ℕ) → j < length before → Extends (node_at before j) v ↔ TailMeetsHead (node_at before j) v
-  meets j lt = laws.leads.meets (node_at before j) v (valid_at j lt) next_valid
+  meets j lt = grind (arith, valid_at, next_valid)
 
   pub group_sources : Extends (node_at before from) v → Sources p w stage before v from to
   group_sources leads =
@@ -205,7 +155,7 @@ module _ (p : Problem) (w stage : ℕ) (before : List (List ℤ)) (v : List ℤ)
         node = node;
         within = group.within;
         exact = λ j lt. (
-          λ e. (group.exact j lt).0 ((meets j lt).0 e ∙ sym head),
+          grind (arith, meets),
           λ r. (meets j lt).1 ((group.exact j lt).1 r ∙ head),
         );
       }
@@ -218,16 +168,7 @@ pub sources_of : (p : Problem) (w : ℕ) (before : ℕ × List (List ℤ)) (v : 
     → HoldsLandable p before → (x : List ℤ) × Contains before.1 x × IsSuccessor p before.0 x v → to ≤ length before.1
     → ((j : ℕ) → j < length before.1 → Extends (node_at before.1 j) v ↔ ((from ≤ j) × (j < to)))
     → Sources p w before.0 before.1 v from to
-sources_of p w before v from to odd network alike ranks leads holds node within exact =
-    record {
-      odd = odd;
-      laws = record { network = network; alike = alike; ranks = ranks; leads = leads };
-      holds =
-          holds;
-      node = node;
-      within = within;
-      exact = exact;
-    }
+sources_of p w before v from to odd network alike ranks leads holds node within exact = grind arith
 
 pub sources_from : (p : Problem) (w : ℕ) (before after : ℕ × List (List ℤ)) (i from to : ℕ)
     → w ≡ 2 * p.k + 1 → WindowLaws p w → HoldsLandable p before
@@ -257,12 +198,9 @@ group_sources_from p w before after i from to odd laws holds next lt group leads
 -- the last rank of a window that is written otherwise
 pub same_rank : (x y : List ℤ) (n m l j : ℕ) → x ≡ y → n ≡ m → pos l ≡ pos n +ℤ offset_at x j
     → pos l ≡ pos m +ℤ offset_at y j
-same_rank x y n m l j e f is = is ∙ ap (λ (k : ℕ). pos k +ℤ offset_at x j) f
-    ∙ ap (λ (z : List ℤ). pos m +ℤ offset_at z j) e
+same_rank x y n m l j e f is = cc
 
 pub in_bytes : (x y : List ℤ) (n m j c : ℕ) → x ≡ y → n ≡ m → c ≤ most_waiting → (pos 0 ≤ℤ (pos m +ℤ offset_at y j))
     → ((pos m +ℤ offset_at y j) ≤ℤ pos c)
     → (pos 0 ≤ℤ (pos n +ℤ offset_at x j)) × ((pos n +ℤ offset_at x j) ≤ℤ pos most_waiting)
-in_bytes x y n m j c e f few low high =
-    let o : offset_at x j ≡ offset_at y j = ap (λ (z : List ℤ). offset_at z j) e in
-    (omega (arith, ints, o, f, low), omega (arith, ints, o, f, high, few))
+in_bytes x y n m j c e f few low high = grind arith

@@ -1,6 +1,6 @@
 -- What the windows of legal prefixes are: windows of the width, whose last offset tells the rank that landed last.
-use Rattle.std.proofs.Common.{◌≡◌, ℕ, suc, ◌+◌, ◌-◌, ◌*◌, ◌≤◌, List, [], ◌∷◌, ◌++◌, length, reverse, replicate, sym}
-use Rattle.std.proofs.Common.{ap, subst, ◌∙◌, arith}
+use Rattle.std.proofs.Common.{[], rules, ◌≡◌, ℕ, suc, ◌+◌, ◌-◌, ◌*◌, ◌≤◌, List, ◌∷◌, ◌++◌, length, reverse, replicate}
+use Rattle.std.proofs.Common.{subst, arith}
 use Rattle.std.specs.Prelude.{ℤ, pos, ◌+ℤ◌}
 use Rattle.std.proofs.lemmas.Int.{ints}
 use Rattle.std.proofs.lemmas.List.{reverse-append, length-reverse, append-nil, get_or-replicate}
@@ -12,7 +12,7 @@ use Rattle.cps_theory.specs.LegalPrefix.{Legal}
 use Rattle.landing_joint.specs.RankedProblem.{ranked}
 use Rattle.landing_rules.specs.Problem.{Problem}
 use Rattle.cps_network.specs.Landable.{IsLandable}
-use Rattle.cps_network.specs.Nodes.{Node, node_of, permits, land, latest}
+use Rattle.cps_network.specs.Nodes.{Node, node_of, permits, latest}
 use Rattle.cps_network.specs.Permits.{IsPermitted}
 use Rattle.cps_network.specs.WindowLaws.{WindowLaws}
 
@@ -32,52 +32,35 @@ module _ (p : Problem) (w : ℕ) (odd : w ≡ 2 * p.k + 1) (laws : WindowLaws p 
       (record { low = omega (arith, ints, may.late, odd); high = omega (arith, ints, may.early, odd) }) may.accepted
 
   prefix_valid : (rs : List ℕ) → Legal (ranked p).rules rs → IsWindow w (node_of p.k rs).1
-  prefix_valid [] legal = subst (IsWindow w) (ap (λ (m : ℕ). replicate m (pos 0)) odd
-      ∙ sym (source_is p)) laws.leads.source
+  prefix_valid [] legal = search rules
   prefix_valid (r ∷ rs) legal =
-      let s = laws.network.shrinks r rs legal in
-      subst (IsWindow w) (sym (ap (λ (n : Node). n.1) (laws.network.pushes r rs s.0)))
-      (valid_after (node_of p.k rs).1 (length rs) r (prefix_valid rs s.0) s.1)
+      let s = laws.network.shrinks r rs legal in grind (arith, valid_after, p.k, (prefix_valid rs s.0))
 
   prefix_last : (rs : List ℕ) → pos (length rs) +ℤ offset_at (node_of p.k rs).1 (w - 1) ≡ pos (last_rank rs)
-  prefix_last [] =
-      let z : offset_at (node_of p.k []).1 (w - 1) ≡ pos 0 = ap (λ (l : List ℤ). offset_at l (w - 1)) (source_is p)
-      ∙ get_or-replicate (2 * p.k + 1) (w - 1) (pos 0) (pos 0) (omega (arith, odd)) in
-      omega (arith, ints, z)
-  prefix_last (r ∷ rs) =
-      let last : pos (length (reverse rs) + 1) +ℤ offset_at (window_of w (reverse rs ++ r ∷ [])) (w - 1) ≡ pos r =
-      laws.ranks.last (reverse rs) r in
-      let here : offset_at (node_of p.k (r ∷ rs)).1 (w - 1) ≡ offset_at (window_of w (reverse rs ++ r ∷ [])) (w - 1) =
-      ap (λ (l : List ℕ). offset_at (window_of (2 * p.k + 1) l) (w - 1)) (reverse_more r rs)
-      ∙ ap (λ (m : ℕ). offset_at (window_of m (reverse rs ++ r ∷ [])) (w - 1)) (sym odd) in
-      omega (arith, ints, last, here, length-reverse rs)
+  prefix_last [] = search (rules, get_or-replicate)
+  prefix_last (r ∷ rs) = grind (arith, p.k, reverse_more, length-reverse)
 
   rank_in : (rs : List ℕ) → Legal (ranked p).rules rs → last_rank rs ≤ length p.flights
   rank_in [] legal = omega arith
   rank_in (r ∷ rs) legal = legal.0.fits.to_count
 
   pub landable_valid : (stage : ℕ) (x : List ℤ) → IsLandable p stage x → IsWindow w x
-  landable_valid stage x l = subst (λ (n : Node). IsWindow w n.1) l.1.at (prefix_valid (ranks l.1.landings) l.1.legal)
+  landable_valid stage x l = grind (arith, prefix_valid)
 
   -- the rank that landed last in a landable window
   pub landable_last : (stage : ℕ) (x : List ℤ) → IsLandable p stage x
       → (pos stage +ℤ offset_at x (w - 1) ≡ pos (latest (stage, x))) × (latest (stage, x) ≤ length p.flights)
   landable_last stage x l =
-      let is : latest (stage, x) ≡ last_rank (ranks l.1.landings) =
-      ap latest (sym l.1.at) ∙ laws.network.newest_is (ranks l.1.landings) l.1.legal in
+      let is : latest (stage, x) ≡ last_rank (ranks l.1.landings) = grind arith in
       let last : pos stage +ℤ offset_at x (w - 1) ≡ pos (last_rank (ranks l.1.landings)) =
       subst (λ (n : Node). pos n.0 +ℤ offset_at n.1 (w - 1) ≡ pos (last_rank (ranks l.1.landings))) l.1.at
-      (prefix_last (ranks l.1.landings)) in
-      let low = rank_in (ranks l.1.landings) l.1.legal in
-      (last ∙ ap pos (sym is), omega (arith, is, low))
+      (prefix_last (ranks l.1.landings)) in grind arith
 
   -- and the rank that lands next is the last of the window after it
   pub next_last : (stage : ℕ) (x : List ℤ) (r : ℕ) → IsLandable p stage x → IsPermitted p stage x r
       → pos (suc stage) +ℤ offset_at (shifted x (offset_after stage r)) (w - 1) ≡ pos r
   next_last stage x r l may =
       let rs = ranks l.1.landings in
-      let here : permits p (node_of p.k (ranks l.1.landings)) r =
-      subst (λ (n : Node). permits p n r) (sym l.1.at) may in
-      let at : node_of p.k (r ∷ ranks l.1.landings) ≡ (suc stage, shifted x (offset_after stage r)) =
-      laws.network.pushes r (ranks l.1.landings) l.1.legal ∙ ap (λ (n : Node). land n r) l.1.at in
+      let here : permits p (node_of p.k (ranks l.1.landings)) r = grind arith in
+      let at : node_of p.k (r ∷ ranks l.1.landings) ≡ (suc stage, shifted x (offset_after stage r)) = grind arith in
       subst (λ (n : Node). pos n.0 +ℤ offset_at n.1 (w - 1) ≡ pos r) at (prefix_last (r ∷ ranks l.1.landings))

@@ -1,23 +1,17 @@
 -- What is due is one number, whoever counts it.
-use Rattle.std.proofs.Common.{◌≡◌, ℕ, zero, suc, List, [], ◌∷◌, length, Bool, true, false, Option, Some, None, refl}
-use Rattle.std.proofs.Common.{sym, ap, subst, ◌∙◌, arith}
+use Rattle.std.proofs.Common.{◌≡◌, ℕ, zero, suc, List, ◌∷◌, length, Bool, true, false, Option, Some, None, refl, sym}
+use Rattle.std.proofs.Common.{[], ap, subst, ◌∙◌, arith}
 use Rattle.std.specs.Prelude.{ℤ, Contains}
 use Rattle.std.proofs.lemmas.List.{get_or_default}
-use Rattle.std.specs.declared.cmp.Ordering.{Ordering}
-use Rattle.std.specs.declared.cmp.Ordering.TheVariants.{Less, Greater}
-use Rattle.std.specs.Ordering.{ordering_reverse}
+use Rattle.std.specs.declared.cmp.Ordering.TheVariants.{Less}
 use Rattle.landing_rules.specs.Problem.{Problem}
-use Rattle.cps_theory.specs.Agreement.{counts}
 use Rattle.cps_nodes.specs.WindowOrder.{window_cmp, window_cmp_total}
 use Rattle.cps_problem.specs.shared.OneDifference.{one_first_difference}
 use Rattle.cps_network.specs.Due.{HasCandidates, HasCandidatesIf, HasCandidatesWhere, IsDue}
 use Rattle.cps_network.specs.Lists.{IsAscending}
 
-never_both : (x y : List ℤ) → window_cmp x y ≡ Less → window_cmp y x ≡ Less → ⊥
-never_both x y a b = less_greater (sym a ∙ window_cmp_total.antisymm x y ∙ ap ordering_reverse b)
-  where
-    less_greater : ◌≡◌ {A = Ordering} Less Greater → ⊥
-    less_greater e = cc
+pub never_both : (x y : List ℤ) → window_cmp x y ≡ Less → window_cmp y x ≡ Less → ⊥
+never_both x y a b = grind (arith, window_cmp_total.antisymm)
 
 -- without its first an ascending list ascends
 pub tail_ascends : (x : List ℤ) (xs : List (List ℤ)) → IsAscending (x ∷ xs) → IsAscending xs
@@ -79,13 +73,9 @@ pub one_where : (test : ℕ → Bool) (p : Problem) (n a b : ℕ) → HasCandida
     → HasCandidatesWhere test p n b → a ≡ b
 one_where test p zero a b x y = x ∙ sym y
 one_where test p (suc n) a b (c, d, h, r, e) (c', d', h', r', e') =
-    let f : c ≡ c' = one_if (test (suc n)) p n c c' h h' in
-    let g : d ≡ d' = one_where test p n d d' r r' in
-    omega (arith, e, e', f, g)
+    grind (arith, one_if, (one_where test p n d d' r r'))
 
 pub one_due : (held : Option Problem) (p : Problem) (a b : ℕ) → IsDue held p a → IsDue held p b → a ≡ b
-one_due None p a b x y = one_where (counts 1 p.k 0) p (length p.flights) a b x y
+one_due None p a b x y = grind (arith, one_where)
 one_due (Some held) p a b (d, is, x) (e, is', y) =
-    let same : d ≡ e = one_first_difference held p d e is is' in
-    one_where (counts e p.k (length held.flights)) p (length p.flights) a b
-    (subst (λ (f : ℕ). HasCandidatesWhere (counts f p.k (length held.flights)) p (length p.flights) a) same x) y
+    let same : d ≡ e = one_first_difference held p d e is is' in grind (arith, one_where)

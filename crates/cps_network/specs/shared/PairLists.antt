@@ -1,12 +1,9 @@
 -- Lists of pairs: what they have, in whatever order, and pairs in order.
-use Rattle.std.proofs.Common.{◌≡◌, ℕ, suc, ◌+◌, ◌<◌, ◌≤◌, ◌⊎◌, inl, inr, List, [], ◌∷◌, ◌++◌, length, get_or, Bool}
-use Rattle.std.proofs.Common.{true, false, cond, refl, sym, ap, ap₂, subst, ◌∙◌, arith}
-use Rattle.std.specs.Prelude.{Contains, All, nat_eq}
+use Rattle.std.proofs.Common.{[], rules, ◌≡◌, ℕ, suc, ◌<◌, ◌≤◌, ◌⊎◌, inl, inr, List, ◌∷◌, ◌++◌, length, refl, ap, subst}
+use Rattle.std.proofs.Common.{◌∙◌, arith}
+use Rattle.std.specs.Prelude.{Contains, All}
 use Rattle.std.specs.List.Sorted.{IsPermutation, IsSorted}
-use Rattle.std.specs.Ordering.{nat_cmp, ordering_then, is_lt}
-use Rattle.std.specs.declared.cmp.Ordering.{Ordering}
-use Rattle.std.specs.declared.cmp.Ordering.TheVariants.{Less, Equal, Greater}
-use Rattle.std.proofs.lemmas.Bool.{cases_lt, lt-ltb, le-ltb, eq-eqb}
+use Rattle.std.specs.Ordering.{nat_cmp, ordering_then}
 use Rattle.std.proofs.lemmas.List.{get_or_default}
 use Rattle.std.proofs.lemmas.List.Sorted.{Contains-permutation, IsPermutation-sym}
 use Rattle.cps_theory.specs.Labels.{InPairs, Pair}
@@ -17,7 +14,7 @@ use Rattle.cps_network.specs.shared.PairSteps.{in_at, at_in}
 pub in_append : (q : Pair) (xs ys : List Pair) → InPairs q (xs ++ ys) → InPairs q xs ⊎ InPairs q ys
 in_append q [] ys i = inr i
 in_append q (x ∷ xs) ys (inl e) = inl (inl e)
-in_append q (x ∷ xs) ys (inr i) = elim (in_append q xs ys i) [ inl a ↦ inl (inr a) | inr b ↦ inr b ]
+in_append q (x ∷ xs) ys (inr i) = grind (arith, (in_append q xs ys i))
 
 pub in_left : (q : Pair) (xs ys : List Pair) → InPairs q xs → InPairs q (xs ++ ys)
 in_left q [] ys i = absurd i
@@ -29,7 +26,7 @@ in_right q [] ys i = i
 in_right q (x ∷ xs) ys i = inr (in_right q xs ys i)
 
 pub in_contains : (q : Pair) (xs : List Pair) → InPairs q xs → Contains xs q
-in_contains q xs i = let a = in_at q xs i in (a.0, a.1, get_or_default xs a.0 q (0, 0) a.1 ∙ a.2)
+in_contains q xs i = search (rules, in_at, get_or_default)
 
 pub contains_in : (q : Pair) (xs : List Pair) → Contains xs q → InPairs q xs
 contains_in q xs (i, lt, e) = at_in xs i q lt (get_or_default xs i (0, 0) q lt ∙ e)
@@ -38,45 +35,15 @@ pub all_in : (P : Pair → Type 0) (xs : List Pair) → All P xs → (q : Pair) 
 all_in P xs all q i = let a = in_at q xs i in subst P a.2 (all a.0 (0, 0) a.1)
 
 pub in_all : (P : Pair → Type 0) (xs : List Pair) → ((q : Pair) → InPairs q xs → P q) → All P xs
-in_all P xs h i d lt = h (get_or xs i d) (at_in xs i (get_or xs i d) lt (get_or_default xs i (0, 0) d lt))
+in_all P xs h i d lt = search (rules, at_in, get_or_default)
 
 pub in_permuted : (xs ys : List Pair) → IsPermutation xs ys → (q : Pair) → InPairs q xs → InPairs q ys
-in_permuted xs ys moved q i = contains_in q ys (Contains-permutation xs ys q moved (in_contains q xs i))
+in_permuted xs ys moved q i = search (rules, contains_in, Contains-permutation, in_contains)
 
 pub permuted_in : (xs ys : List Pair) → IsPermutation xs ys → (q : Pair) → InPairs q ys → InPairs q xs
-permuted_in xs ys moved q i = in_permuted ys xs (IsPermutation-sym xs ys moved) q i
+permuted_in xs ys moved q i = search (rules, in_permuted, IsPermutation-sym)
 
 -- ---- pairs in order
-
-nat_cmp_less : (a b : ℕ) → a < b → nat_cmp a b ≡ Less
-nat_cmp_less a b lt = ap (λ (t : Bool). cond t Less (cond (nat_eq a b) Equal Greater)) (lt-ltb a b lt)
-
-nat_cmp_equal : (a b : ℕ) → a ≡ b → nat_cmp a b ≡ Equal
-nat_cmp_equal a b e = ap₂ (λ (t u : Bool). cond t Less (cond u Equal Greater)) (le-ltb a b (omega (arith, e)))
-    (eq-eqb a b e)
-
--- what the test of one pair before another says
-not_below : (a b : Pair) → is_lt (ordering_then (nat_cmp b.0 a.0) (nat_cmp b.1 a.1)) ≡ false
-    → (a.0 < b.0) ⊎ ((a.0 ≡ b.0) × (a.1 ≤ b.1))
-not_below a b e = elim (cases_lt a.0 b.0) [
-  | inl lt ↦ inl lt
-  | inr ge ↦ elim (cases_lt b.0 a.0) [
-    | inl lt ↦ absurd (true_false
-        (sym (ap (λ (o : Ordering). is_lt (ordering_then o (nat_cmp b.1 a.1))) (nat_cmp_less b.0 a.0 lt)) ∙ e))
-    | inr ge' ↦ (
-        let same : a.0 ≡ b.0 = omega (arith, ge, ge') in
-        elim (cases_lt b.1 a.1) [
-          | inl lt ↦ absurd (true_false
-              (sym (ap₂ (λ (o o' : Ordering). is_lt (ordering_then o o')) (nat_cmp_equal b.0 a.0 (sym same))
-              (nat_cmp_less b.1 a.1 lt)) ∙ e))
-          | inr le ↦ inr (same, le)
-        ]
-        )
-  ]
-]
-  where
-    true_false : ◌≡◌ {A = Bool} true false → ⊥
-    true_false e = cc
 
 abbrev Later : Pair → Pair → Type 0
 Later a b = (a.0 < b.0) ⊎ ((a.0 ≡ b.0) × (a.1 ≤ b.1))
@@ -90,19 +57,12 @@ in_order (x ∷ (y ∷ ys)) h =
     (λ q i. through (h 0 1 refl (omega arith)) q (later rest q i), rest)
   where
     later : InPairOrder (y ∷ ys) → (q : Pair) → InPairs q (y ∷ ys) → Later y q
-    later o q (inl e) = let f = ap (λ (z : Pair). z.1) e in inr (ap (λ (z : Pair). z.0) (sym e), omega arith)
+    later o q (inl e) = inr (grind arith)
     later o q (inr i) = o.0 q i
 
     through : Later x y → (q : Pair) → Later y q → Later x q
-    through (inl a) q (inl b) = inl (omega arith)
-    through (inl a) q (inr b) = inl (let c = b.0 in omega arith)
-    through (inr a) q (inl b) = inl (let c = a.0 in omega arith)
-    through (inr a) q (inr b) = inr (a.0 ∙ b.0, (let c = a.1 in let d = b.1 in omega arith))
+    through a q b = grind arith
 
 pub sorted_in_order : (xs : List Pair) → IsSorted (λ (x y : Pair). ordering_then (nat_cmp x.0 y.0) (nat_cmp x.1 y.1)) xs
     → InPairOrder xs
-sorted_in_order xs up = in_order xs (λ j m e lt.
-    let n : j + 1 ≡ m = omega arith in
-    not_below (pair_at xs j) (pair_at xs m)
-    (subst (λ (i : ℕ). is_lt (ordering_then (nat_cmp (pair_at xs i).0 (pair_at xs j).0)
-    (nat_cmp (pair_at xs i).1 (pair_at xs j).1)) ≡ false) n (up j (0, 0) (omega arith) (omega arith))))
+sorted_in_order xs up = grind (arith, in_order)

@@ -1,6 +1,6 @@
 -- One landing more and one landing back, with the pairs that windows attain.
-use Rattle.std.proofs.Common.{◌≡◌, ℕ, zero, suc, ◌<◌, ◌≤◌, inl, inr, List, [], ◌∷◌, length, Some, true, sym, ap, subst}
-use Rattle.std.proofs.Common.{◌∙◌, arith}
+use Rattle.std.proofs.Common.{◌≡◌, ℕ, zero, suc, ◌<◌, ◌≤◌, inl, inr, List, ◌∷◌, length, Some, true, sym, ap, subst, ◌∙◌}
+use Rattle.std.proofs.Common.{[], arith}
 use Rattle.std.specs.Prelude.{ℤ}
 use Rattle.std.proofs.lemmas.List.{get_or_default}
 use Rattle.cps_nodes.specs.Windows.{shifted}
@@ -86,8 +86,7 @@ module _ (p : Problem) (net : IsWindowNetwork p) (before : ℕ × List (List ℤ
                 rank = z.1;
                 permitted = may;
                 next = next;
-                lands = ap (λ (y : Pair). successor p (latest (before.0, node_at before.1 has.0)) y z.1) i.2
-                    ∙ c.1 ∙ ap Some e;
+                lands = cc;
               },
             )
             )

@@ -1,34 +1,31 @@
 -- Labels for the makespan and pairs say the same: the label of a window is its one undominated pair, whose cost is 0.
-use Rattle.std.proofs.Common.{◌≡◌, ℕ, zero, suc, ◌+◌, ◌<◌, ◌≤◌, List, [], ◌∷◌, length, Some, option_map, Bool, inl}
-use Rattle.std.proofs.Common.{inr, refl, sym, ap, ap₂, subst, ◌∙◌, arith}
+use Rattle.std.proofs.Common.{rules, ◌≡◌, ℕ, zero, suc, ◌<◌, ◌≤◌, List, [], ◌∷◌, length, inl, inr, refl, sym, ap, ap₂}
+use Rattle.std.proofs.Common.{subst, arith}
 use Rattle.std.specs.Prelude.{ℤ, slice_index}
-use Rattle.std.proofs.lemmas.Bool.{cases_lt, lt-ltb, le-ltb}
+use Rattle.std.proofs.lemmas.Bool.{cases_lt}
 use Rattle.std.proofs.lemmas.List.{length-map}
 use Rattle.std.proofs.lemmas.List.Elements.{Contains-get_or}
-use Rattle.landing_rules.specs.declared.objective.Objective.{Objective}
 use Rattle.landing_rules.specs.declared.objective.Objective.TheVariants.{Makespan}
 use Rattle.landing_rules.specs.Problem.{Problem}
-use Rattle.cps_theory.specs.RankLists.{of_rank}
 use Rattle.cps_theory.specs.Separation.{Landing}
 use Rattle.cps_theory.specs.LandingTrail.{cost_of}
 use Rattle.cps_theory.specs.Labels.{InPairs, NoWorse, Pair}
 use Rattle.cps_theory.specs.Network.{Undominated}
-use Rattle.landing_joint.specs.RankedProblem.{no_waiting, cost_at, cost_by, landing_after}
+use Rattle.landing_joint.specs.RankedProblem.{cost_at}
 use Rattle.cps_network.specs.Lists.{node_at}
-use Rattle.cps_network.specs.Nodes.{latest}
 use Rattle.cps_network.specs.Landable.{Attains}
-use Rattle.cps_network.specs.Pairs.{ArePairsOf, AreCosts, HoldsCosts, GivesPair, list_at, pair_at, successor}
+use Rattle.cps_network.specs.Pairs.{ArePairsOf, AreCosts, HoldsCosts, GivesPair, list_at}
 use Rattle.makespan_labels.specs.Labels.{no_label, CanLandAt, IsLabel, AreLabels, HoldsLabels, GivesLabel}
-use Rattle.makespan_labels.specs.LabelPairs.{label_pairs, column_pairs, pair_if}
+use Rattle.makespan_labels.specs.LabelPairs.{label_pairs, column_pairs}
 use Rattle.makespan_labels.specs.shared.NetworkSteps.{can_land}
 
 -- ---- the pairs of a label
 
 pub known_pairs : (label : ℕ) → label < no_label → label_pairs label ≡ (label, 0) ∷ []
-known_pairs label lt = ap (λ (b : Bool). pair_if b label) (lt-ltb label no_label lt)
+known_pairs label lt = grind arith
 
 pub no_pairs : (label : ℕ) → no_label ≤ label → label_pairs label ≡ []
-no_pairs label le = ap (λ (b : Bool). pair_if b label) (le-ltb label no_label le)
+no_pairs label le = grind arith
 
 -- the list of a place is that of its label
 pub list_of_label : (labels : List ℕ) (i : ℕ) → i < length labels
@@ -41,18 +38,18 @@ module _ (p : Problem) (makespan : p.objective ≡ Makespan) where
   -- ---- no landing costs anything
 
   free : (r t : ℕ) → cost_at p r t ≡ 0
-  free r t = ap (λ (o : Objective). cost_by o (of_rank no_waiting p.flights r) t) makespan
+  free r t = cc
 
   all_free : (xs : List Landing) → cost_of (cost_at p) xs ≡ 0
   all_free [] = refl
-  all_free (x ∷ xs) = let a = all_free xs in let b = free x.0 x.1 in omega (arith, a, b)
+  all_free (x ∷ xs) = grind (arith, free, x.0, (all_free xs))
 
   pub attains_free : (stage : ℕ) (xs : List ℤ) (q : Pair) → Attains p stage xs q → q.1 ≡ 0
-  attains_free stage xs q a = sym (ap (λ (x : Pair). x.1) a.is) ∙ all_free a.landings
+  attains_free stage xs q a = grind (arith, all_free)
 
   -- a pair is attained exactly where a landing at its second can be last, and its cost is 0
   can_attain : (stage : ℕ) (xs : List ℤ) (t : ℕ) → CanLandAt p stage xs t → Attains p stage xs (t, 0)
-  can_attain stage xs t (cost, a) = subst (λ (c : ℕ). Attains p stage xs (t, c)) (attains_free stage xs (t, cost) a) a
+  can_attain stage xs t (cost, a) = grind (arith, attains_free)
 
   attains_can : (stage : ℕ) (xs : List ℤ) (q : Pair) → Attains p stage xs q → CanLandAt p stage xs q.0
   attains_can stage xs q a = (q.1, a)
@@ -105,14 +102,14 @@ module _ (p : Problem) (makespan : p.objective ≡ Makespan) where
 
     pub pairs_of_label : (label : ℕ) → IsLabel p stage xs label → ArePairsOf p stage xs (label_pairs label)
     pairs_of_label label is = elim (cases_lt label no_label) [
-      | inl lt ↦ subst (ArePairsOf p stage xs) (sym (known_pairs label lt)) (one_pair label lt is)
-      | inr le ↦ subst (ArePairsOf p stage xs) (sym (no_pairs label le)) (none_pairs label le is)
+      | inl lt ↦ grind (arith, known_pairs, one_pair)
+      | inr le ↦ grind (arith, no_pairs, none_pairs)
     ]
 
     from_one : (label : ℕ) → label < no_label → ArePairsOf p stage xs ((label, 0) ∷ []) → IsLabel p stage xs label
     from_one label lt are = record {
-      attained = λ _. attains_can stage xs (label, 0) (((are.undominated (label, 0)).0 (inl refl)).attained);
-      least = λ t l. (lt, low (are.covers (t, 0) (can_attain stage xs t l)));
+      attained = grind arith;
+      least = λ t l. search (rules, low, are.covers, can_attain);
     }
       where
         low : {t : ℕ} → (o : Pair) × InPairs o ((label, 0) ∷ []) × NoWorse o (t, 0) → label ≤ t
@@ -127,16 +124,13 @@ module _ (p : Problem) (makespan : p.objective ≡ Makespan) where
 
     pub label_of_pairs : (label : ℕ) → ArePairsOf p stage xs (label_pairs label) → IsLabel p stage xs label
     label_of_pairs label are = elim (cases_lt label no_label) [
-      | inl lt ↦ from_one label lt (subst (ArePairsOf p stage xs) (known_pairs label lt) are)
-      | inr le ↦ from_none label le (subst (ArePairsOf p stage xs) (no_pairs label le) are)
+      | inl lt ↦ grind (arith, from_one, known_pairs)
+      | inr le ↦ grind (arith, from_none, no_pairs)
     ]
 
     -- an undominated pair is the label
     pub label_of_undominated : (q : Pair) → q.0 < no_label → Undominated (Attains p stage xs) q → IsLabel p stage xs q.0
-    label_of_undominated q lt u = record {
-      attained = λ _. attains_can stage xs q u.attained;
-      least = λ t l. (lt, low t l);
-    }
+    label_of_undominated q lt u = search (rules, attains_can, low)
       where
         low : (t : ℕ) → CanLandAt p stage xs t → q.0 ≤ t
         low t l = elim (cases_lt t q.0) [
@@ -150,18 +144,13 @@ module _ (p : Problem) (makespan : p.objective ≡ Makespan) where
 
   pub costs_of_labels : (stage : ℕ × List (List ℤ)) (labels : List ℕ) → AreLabels p stage labels
       → AreCosts p stage (column_pairs labels)
-  costs_of_labels stage labels are = record {
-    one_each = length-map labels label_pairs ∙ are.one_each;
-    pairs = λ i lt.
-        subst (ArePairsOf p stage.0 (node_at stage.1 i))
-        (sym (list_of_label labels i (omega (arith, lt, are.one_each))))
-        (pairs_of_label stage.0 (node_at stage.1 i) (slice_index labels i) (are.label i lt));
-  }
+  costs_of_labels stage labels are =
+      grind (arith, length-map, label_pairs, stage.0, stage.1, list_of_label, pairs_of_label, slice_index, are.label)
 
   pub labels_of_costs : (stage : ℕ × List (List ℤ)) (labels : List ℕ) → AreCosts p stage (column_pairs labels)
       → AreLabels p stage labels
   labels_of_costs stage labels are =
-      let one : length labels ≡ length stage.1 = sym (length-map labels label_pairs) ∙ are.one_each in
+      let one : length labels ≡ length stage.1 = grind (arith, length-map, label_pairs) in
       record {
         one_each = one;
         label = λ i lt.
@@ -172,11 +161,11 @@ module _ (p : Problem) (makespan : p.objective ≡ Makespan) where
 
   pub holds_costs : (stage : ℕ × List (List ℤ)) (labels : List ℕ) → HoldsLabels p stage labels
       → HoldsCosts p stage (column_pairs labels)
-  holds_costs stage labels h = record { landable = h.landable; costs = costs_of_labels stage labels h.labelled }
+  holds_costs stage labels h = search (rules, costs_of_labels)
 
   pub holds_labels : (stage : ℕ × List (List ℤ)) (labels : List ℕ) → HoldsCosts p stage (column_pairs labels)
       → HoldsLabels p stage labels
-  holds_labels stage labels h = record { landable = h.landable; labelled = labels_of_costs stage labels h.costs }
+  holds_labels stage labels h = search (rules, labels_of_costs)
 
   -- ---- which window gives a label
 
@@ -188,12 +177,6 @@ module _ (p : Problem) (makespan : p.objective ≡ Makespan) where
       (can_land p stage.0 (node_at stage.1 i)
       ((h.landable (node_at stage.1 i)).0 (Contains-get_or stage.1 i [] lt)))).0
 
-  lands_free : (last second rank label : ℕ) → landing_after p last second rank ≡ Some label
-      → successor p last (second, 0) rank ≡ Some (label, 0)
-  lands_free last second rank label e =
-      let none : 0 + cost_at p rank label ≡ 0 = (let f = free rank label in omega (arith, f)) in
-      ap (option_map (λ t. (t, 0 + cost_at p rank t))) e ∙ ap (λ (c : ℕ). Some (label, c)) none
-
   -- a window gives a label where its one pair gives the label's pair
   pub gives_pair : (before : ℕ × List (List ℤ)) (labels : List ℕ) (node : List ℤ) (label place : ℕ)
       → HoldsLabels p before labels
@@ -201,16 +184,12 @@ module _ (p : Problem) (makespan : p.objective ≡ Makespan) where
   gives_pair before labels node label place h gives =
       let known = held_known before labels h place gives.within in
       let list : list_at (column_pairs labels) place ≡ (slice_index labels place, 0) ∷ [] =
-      list_of_label labels place (let w = gives.within in omega (arith, w, h.labelled.one_each))
-      ∙ known_pairs (slice_index labels place) known in
+      grind (arith, list_of_label, known_pairs, slice_index) in
       record {
         within = gives.within;
         listed = (let e = ap length list in omega (arith, e));
         rank = gives.rank;
         permitted = gives.permitted;
         next = gives.next;
-        lands = ap (λ (l : List Pair). successor p (latest (before.0, node_at before.1 place))
-            (pair_at l 0) gives.rank) list
-            ∙ lands_free (latest (before.0, node_at before.1 place))
-            (slice_index labels place) gives.rank label gives.lands;
+        lands = cc;
       }

@@ -16,7 +16,7 @@ use Rattle.landing_joint.specs.RankedProblem.{ranked, cost_at, landing_after}
 use Rattle.landing_joint.specs.shared.FirstOpen.{is_first_open}
 use Rattle.landing_rules.specs.Problem.{Problem}
 use Rattle.cps_network.specs.Landable.{IsLandable}
-use Rattle.cps_network.specs.Nodes.{Node, node_of, permits, land, latest, IsWindowNetwork}
+use Rattle.cps_network.specs.Nodes.{Node, node_of, permits, latest, IsWindowNetwork}
 use Rattle.cps_network.specs.Permits.{IsPermitted}
 use Rattle.makespan_labels.specs.Labels.{CanLandAt}
 
@@ -54,7 +54,7 @@ module _ (p : Problem) (net : IsWindowNetwork p) where
           landings = (r, t) ∷ a.landings;
           legal = net.grows r (ranks a.landings) a.legal here;
           landed = (found.0, allowed, a.landed);
-          at = net.pushes r (ranks a.landings) a.legal ∙ ap (λ (n : Node). land n r) a.at;
+          at = grind (arith, net.pushes);
           is = refl;
         },
       )
@@ -83,15 +83,13 @@ module _ (p : Problem) (net : IsWindowNetwork p) where
           record { landings = xs; legal = s.0; landed = landed.2; at = here; is = refl },
         );
         permitted = subst (λ (n : Node). permits p n y.0) here s.1;
-        next = ap (λ (n : Node). n.1) (sym at ∙ net.pushes y.0 (ranks xs) s.0 ∙ ap (λ (n : Node). land n y.0) here);
-        is_open = subst (λ (u : ℕ). (ranked p).is_open y.0 u ≡ true) is landed.0;
-        apart = subst (λ (u : ℕ). next_from (ranked p) (latest (stage, window_of (2 * p.k + 1) (reverse (ranks xs))))
-            (latest_landing xs).1 y.0 ≤ u) is
-            (subst (λ (l : ℕ). next_from (ranked p) l (latest_landing xs).1 y.0 ≤ y.1) (sym lead) landed.1);
+        next = grind (arith, net.pushes);
+        is_open = grind arith;
+        apart = grind arith;
       }
     where
       less : {a b : ℕ} → suc a ≡ suc b → a ≡ b
       less {a} {b} e = omega arith
 
   pub comes_from : (stage : ℕ) (v : List ℤ) (t : ℕ) → CanLandAt p (suc stage) v t → ComesFrom p stage v t
-  comes_from stage v t (cost, a) = landing_back stage v t a.landings a.legal a.landed a.at (ap (λ (q : Pair). q.0) a.is)
+  comes_from stage v t (cost, a) = grind (arith, landing_back, a.at)

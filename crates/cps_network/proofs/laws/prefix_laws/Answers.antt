@@ -1,8 +1,8 @@
-use Rattle.std.proofs.Common.{◌≡◌, ◌+◌, ◌*◌, refl, subst}
+use Rattle.std.proofs.Common.{subst}
 use Rattle.cps_nodes.specs.Laws.{FollowRanks}
-use Rattle.cps_network.proofs.NetworkLemmas.{window_network, passed_low, steps_are_whole}
 use Rattle.precedence.specs.Pairs.{AreInRange}
-use Rattle.cps_network.proofs.LegalLemmas.{follow_prefixes, lead_alike}
+use Rattle.cps_network.proofs.NetworkLemmas.{window_network, passed_low, steps_are_whole}
+use Rattle.cps_network.proofs.StageLemmas.{lead_alike}
 use Rattle.cps_network.proofs.laws.prefix_laws.Goals as goal
 
 pub returns-clause-sources : goal.returns-clause-sources
@@ -10,12 +10,9 @@ returns-clause-sources g c = lead_alike c.args.problem.now g.row.W c.requires c.
 
 pub returns-clause-network : goal.returns-clause-network
 returns-clause-network g c =
-    let odd : g.row.W ≡ 2 * c.args.problem.now.k + 1 = c.requires in
-    let range : AreInRange c.args.problem.now.pairs =
-    subst AreInRange c.pairs.ensures c.all_before-in_range.ensures.in_range in
-    let ranks : FollowRanks (2 * c.args.problem.now.k + 1) = subst FollowRanks odd c.window_laws.ensures.ranks in
-    window_network c.args.problem.now range (passed_low c.args.problem.now c.head-near.ensures.well_formed.passed) ranks
-    (follow_prefixes c.args.problem.now (2 * c.args.problem.now.k + 1) refl range ranks)
+    window_network c.args.problem.now (subst AreInRange c.pairs.ensures c.all_before-in_range.ensures.in_range)
+    (passed_low c.args.problem.now c.head-near.ensures.well_formed.passed)
+    (subst FollowRanks c.requires c.window_laws.ensures.ranks)
 
 pub returns-clause-whole : goal.returns-clause-whole
 returns-clause-whole g c = steps_are_whole c.args.problem.now

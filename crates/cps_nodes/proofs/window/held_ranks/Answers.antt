@@ -1,4 +1,4 @@
-use Rattle.std.proofs.Common.{◌≡◌, ℕ, ◌+◌, ◌-◌, ◌*◌, ◌^◌, ◌%◌, ◌<◌, sym, subst, arith, rules, tests}
+use Rattle.std.proofs.Common.{◌≡◌, ℕ, ◌-◌, ◌*◌, ◌^◌, ◌%◌, ◌<◌, arith, rules, tests}
 use Rattle.std.specs.Prelude.{pos, ◌+ℤ◌, bit_or}
 use Rattle.std.proofs.lemmas.Int.{ints}
 use Rattle.cps_base.specs.laws.Folds.{kept_by_fold_of_range}
@@ -25,8 +25,4 @@ returns g c =
     × (pos at ≡ pos i +ℤ digit_offset c.args.digits (width - 1 - i) +ℤ pos 8)
     × (made ≡ bit_or held (1 * 2 ^ at % 2 ^ 32)) =
     search (rules, tests, ints) in
-    let reads = offset_at-offsets_of width c.args.digits i below in (
-      search (rules, tests),
-      subst (AreHeldUpto xs (i + 1)) (sym set)
-          (held_more xs i held at few (omega (arith, ints, reads, bit)) are),
-    )))
+    let reads = offset_at-offsets_of width c.args.digits i below in grind (arith, held_more)))

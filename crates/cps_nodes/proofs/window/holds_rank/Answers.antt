@@ -1,5 +1,4 @@
-use Rattle.std.proofs.Common.{refl, ◌≡◌, ℕ, ◌-◌, ◌<◌, ◌∙◌, Bool, true, false, length, sym, ap, subst, arith, rules}
-use Rattle.std.proofs.Common.{tests}
+use Rattle.std.proofs.Common.{◌≡◌, ℕ, ◌-◌, ◌<◌, Bool, true, false, length, arith, rules, tests}
 use Rattle.std.specs.Prelude.{ℤ, pos, ◌+ℤ◌, ◌↔◌, IsTrue}
 use Rattle.std.specs.Bool.{MatchBool}
 use Rattle.std.specs.List.{AllWithin, HoldsAt, range_with_len}
@@ -22,17 +21,13 @@ decided : (r : Bool) (digits width : ℕ) (rank : ℤ)
 decided true digits width rank (k, lt, holds) =
     let long = length-range_with_len 0 width in
     let all = length-offsets_of width digits in
-    let at = get_or-range_with_len 0 width k 0 (omega arith) in
-    let here : Holds digits width rank k = subst (Holds digits width rank) (at ∙ omega arith) (holds 0) in
-    (λ _. (k, omega arith, ap (λ d. pos k +ℤ d) (offset_at-offsets_of width digits k (omega arith)) ∙ here), λ _. refl)
+    let at = get_or-range_with_len 0 width k 0 (omega arith) in grind (arith, offset_at-offsets_of)
 decided false digits width rank none =
     let long = length-range_with_len 0 width in
     let all = length-offsets_of width digits in (
       λ t. absurd (cc),
       λ (k, lt, same).
-          let at = get_or-range_with_len 0 width k 0 (omega arith) in
-          absurd (subst (λ i. Holds digits width rank i → ⊥) (at ∙ omega arith) (none k 0 (omega arith) (omega arith))
-          (ap (λ d. pos k +ℤ d) (sym (offset_at-offsets_of width digits k (omega arith))) ∙ same)),
+          let at = get_or-range_with_len 0 width k 0 (omega arith) in grind (arith, offset_at-offsets_of),
     )
 
 pub returns : goal.returns

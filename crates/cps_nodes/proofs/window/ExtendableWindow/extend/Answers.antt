@@ -1,5 +1,4 @@
-use Rattle.std.proofs.Common.{◌≡◌, arith, ◌∙◌, ap, subst, w8}
-use Rattle.std.specs.Prelude.{◌≤ℤ◌}
+use Rattle.std.proofs.Common.{rules, ◌≡◌, arith, ◌∙◌}
 use Rattle.std.proofs.lemmas.Int.{ints, to_z-of_z}
 use Rattle.cps_nodes.specs.Digits.{offsets_of}
 use Rattle.cps_nodes.specs.Windows.{IsWindow, Accepts, shifted}
@@ -12,15 +11,12 @@ use Rattle.cps_nodes.proofs.window.ExtendableWindow.extend.Goals.{Then-has_rank,
 -- the offsets of the new number
 next_is : (g : _) (c : After-shift-digits g)
     → offsets_of g.row.W c.shift-digits.result ≡ shifted c.self.inside.window c.args.offset
-next_is g c = c.shift-digits.ensures.offsets ∙ ap (shifted (offsets_of g.row.W c.window.inside.digits))
-    (to_z-of_z w8 c.args.offset c.ranges.offset)
-    ∙ ap (λ xs. shifted xs c.args.offset) c.window.view_is
+next_is g c = grind (arith, to_z-of_z)
 
 -- what both tests say, where the window goes on
 accepts : (g : _) (c : After-shift-digits g) → Accepts c.self.inside.window c.args.offset
 accepts g c =
-    let is : IsWindow g.row.W c.self.inside.window =
-    subst (IsWindow g.row.W) c.window.view_is c.window.invariant.window in
+    let is : IsWindow g.row.W c.self.inside.window = grind (arith, c.window.view_is) in
     record {
       fresh = not_held _ _ _ _ (c.has_rank.ensures c.self.inside.window c.self.invariant.0) c.if-has_rank.false
           (omega (arith, ints, c.requires.low, c.requires.high, is.is_width, is.len));
@@ -31,19 +27,13 @@ accepts g c =
 -- and what one of them says, where it does not
 repeats : (g : _) (c : Then-has_rank g) → Accepts c.self.inside.window c.args.offset → ⊥
 repeats g c = λ can.
-    let is : IsWindow g.row.W c.self.inside.window =
-    subst (IsWindow g.row.W) c.window.view_is c.window.invariant.window in
+    let is : IsWindow g.row.W c.self.inside.window = grind (arith, c.window.view_is) in
     can.fresh (held _ _ _ _ (c.has_rank.ensures c.self.inside.window c.self.invariant.0) c.if-has_rank.true
     (omega (arith, ints, c.requires.low, c.requires.high, is.is_width, is.len)))
 
 misses : (g : _) (c : Then-offset-self g) → Accepts c.self.inside.window c.args.offset → ⊥
 misses g c = λ can.
-    let is : IsWindow g.row.W c.self.inside.window =
-    subst (IsWindow g.row.W) c.window.view_is c.window.invariant.window in
-    let most : c.args.offset ≤ℤ c.self.inside.highest =
-    (c.self.invariant.1 c.args.offset (record { low = c.requires.low; high = c.requires.high })).1
-    (rw is.len at can.due) in
-    omega (arith, ints, most, c.if-offset-self.true)
+    let is : IsWindow g.row.W c.self.inside.window = grind (arith, c.window.view_is) in search (rules, is.len)
 
 pub returns-then-has_rank-clause-next : goal.returns-then-has_rank-clause-next
 returns-then-has_rank-clause-next g c = rw (← c.self.view_is) (repeats g c)
@@ -62,13 +52,12 @@ returns-then-offset-self-clause-ranks g c = λ ranks rank is at e more.
 -- the offsets after the landing are those of a window
 is_next : (g : _) (c : After-shift-digits g) → IsWindow g.row.W (offsets_of g.row.W c.shift-digits.result)
 is_next g c =
-    let is : IsWindow g.row.W c.self.inside.window =
-    subst (IsWindow g.row.W) c.window.view_is c.window.invariant.window in
+    let is : IsWindow g.row.W c.self.inside.window = grind (arith, c.window.view_is) in
     rw (next_is g c) ((lead_on g.row.W is.is_width).stays _ _ is
     (record { low = c.requires.low; high = c.requires.high }) (accepts g c))
 
 pub invariant_of-result : goal.invariant_of-result
-invariant_of-result g c = record { window = is_next g c; few = c.shift-digits.ensures.few }
+invariant_of-result g c = search (rules, is_next)
 
 pub returns-clause-next_valid : goal.returns-clause-next_valid
 returns-clause-next_valid g c = is_next g c

@@ -9,9 +9,7 @@ use Rattle.cps_nodes.proofs.window.Window.leads_to.Goals as goal
 -- what the comparison of the numbers says
 meets : (g : _) (c : goal.After-next g) → IsTrue (nat_eq c.tail_of.result (c.next.inside.digits / 16))
     ↔ TailMeetsHead (offsets_of g.row.W c.self.inside.digits) (offsets_of g.row.W c.next.inside.digits)
-meets g c =
-    meets_tested g.row.W c.self.inside.digits c.next.inside.digits c.tail_of.result
-    (omega (arith, c.self.invariant.window.is_width)) c.next.invariant.few c.tail_of.ensures
+meets g c = grind (arith, meets_tested, c.next.invariant.few)
 
 pub returns-clause-lists : goal.returns-clause-lists
 returns-clause-lists g c = rw (← c.self.view_is, ← c.next.view_is) (meets g c)

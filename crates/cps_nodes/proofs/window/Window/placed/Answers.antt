@@ -1,4 +1,4 @@
-use Rattle.std.proofs.Common.{◌≡◌, ◌+◌, ◌-◌, ◌*◌, ◌/◌, arith, ◌∙◌, length, inl, inr}
+use Rattle.std.proofs.Common.{rules, ◌≡◌, ◌+◌, ◌-◌, ◌*◌, ◌/◌, arith, ◌∙◌, length, inr}
 use Rattle.std.specs.Prelude.{pos, ◌+ℤ◌, ◌-ℤ◌, IsTrue, ◌↔◌}
 use Rattle.std.proofs.lemmas.Int.{ints}
 use Rattle.cps_nodes.specs.Windows.{HoldsRank, IsPlaced}
@@ -17,16 +17,7 @@ placed_is g c =
     tested _ _ _ _ c.holds_rank.ensures
     (omega (arith, ints, length-offsets_of g.row.W c.self.inside.digits, c.self.invariant.window.is_width)) in (
       λ t. inr (test.0 t),
-      λ p. elim p [
-        | inl due ↦ absurd (omega (
-          arith,
-          ints,
-          c.if-rank-stage.false,
-          length-offsets_of g.row.W c.self.inside.digits,
-          c.self.invariant.window.is_width,
-        ))
-        | inr holds ↦ test.1 holds
-      ],
+      λ p. search (rules, length-offsets_of),
     )
 
 pub returns-clause-offsets : goal.returns-clause-offsets
@@ -37,7 +28,4 @@ returns-clause-ranks g c = λ ranks is e at.
     let half : g.row.W ≡ 2 * (g.row.W / 2) + 1 = omega (arith, c.self.invariant.window.is_width) in
     let offsets : offsets_of g.row.W c.self.inside.digits ≡ window_of g.row.W ranks = c.self.view_is ∙ e in
     let p : IsTrue c.holds_rank.result ↔ IsPlaced (window_of g.row.W ranks) (pos (length ranks)) c.args.rank =
-    rw (← offsets, ← at) (placed_is g c) in (
-      λ t. HasLanded-from_IsPlaced (g.row.W / 2) g.row.W ranks c.args.rank half is (p.0 t),
-      λ h. p.1 (IsPlaced-from_HasLanded (g.row.W / 2) g.row.W ranks c.args.rank half is h),
-    )
+    rw (← offsets, ← at) (placed_is g c) in grind (arith, HasLanded-from_IsPlaced, IsPlaced-from_HasLanded)

@@ -8,12 +8,10 @@ use Rattle.cps_nodes.proofs.window.Window.shares_tail.Goals as goal
 -- what the comparison of the numbers says
 same : (g : _) (c : goal.After-tail_of-2 g) → IsTrue (nat_eq c.tail_of.result c.tail_of-2.result)
     ↔ (drop 1 (offsets_of g.row.W c.self.inside.digits) ≡ drop 1 (offsets_of g.row.W c.other.inside.digits))
-same g c = tails_tested g.row.W c.self.inside.digits c.other.inside.digits _ _
-    (omega (arith, c.self.invariant.window.is_width)) c.tail_of.ensures c.tail_of-2.ensures
+same g c = grind (arith, tails_tested, c.tail_of.ensures)
 
 pub returns-clause-same : goal.returns-clause-same
 returns-clause-same g c = rw (← c.self.view_is, ← c.other.view_is) (same g c)
 
 pub returns-clause-alike : goal.returns-clause-alike
-returns-clause-alike g c = λ t. rw (← c.self.view_is, ← c.other.view_is) (
-    GoOnAlike-same_tail g.row.W _ _ c.self.invariant.window c.other.invariant.window ((same g c).0 t))
+returns-clause-alike g c = grind (arith, GoOnAlike-same_tail, c.self.invariant.window, c.other.invariant.window, same)
