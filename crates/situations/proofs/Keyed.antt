@@ -1,4 +1,6 @@
 -- What a look-up by callsign finds, and what a change of the map makes of the flights in order of arrival.
+use Rattle.std.proofs.Common.{rules}
+use Rattle.std.proofs.lemmas.Grind.{common_steps}
 use Rattle.std.proofs.Common.{◌≡◌, ◌≢◌, ℕ, zero, suc, ◌+◌, ◌-◌, ◌<◌, Bool, true, false, cond, not, List, [], ◌∷◌, ◌++◌}
 use Rattle.std.proofs.Common.{◌||◌, ◌&&◌, length, map, filter, take, drop, set, get_or, insert, remove, slice_get}
 use Rattle.std.proofs.Common.{Option, Some, None, is_some, refl, sym, ap, ap₂, ◌∙◌, arith}
@@ -35,14 +37,14 @@ abbrev pub Keyed : List Entry → Type 0
 Keyed es = keys_of es ≡ map name_of (values_of es)
 
 head_keyed : (e : Entry) (es : List Entry) → Keyed (e ∷ es) → e.0 ≡ name_of e.1
-head_keyed e es h = ap (λ l. get_or l 0 e.0) h
+head_keyed e es h = cc
 
 tail_keyed : (e : Entry) (es : List Entry) → Keyed (e ∷ es) → Keyed es
-tail_keyed e es h = ap (drop 1) h
+tail_keyed e es h = cc
 
 -- the test of a key is the test of its flight
 keyed_named : (c : Callsign) (e : Entry) (es : List Entry) → Keyed (e ∷ es) → named c e.1 ≡ bytes_eq c e.0
-keyed_named c e es h = ap (λ d. bytes_eq d c) (sym (head_keyed e es h)) ∙ bytes_eq-sym e.0 c
+keyed_named c e es h = search rules
 
 -- ---- look-ups
 
@@ -55,16 +57,11 @@ looked_up c (e ∷ es) h =
 
 pub is_found : (c : Callsign) (xs : List Active) → is_some (find (named c) xs) ≡ list_any (named c) xs
 is_found c [] = refl
-is_found c (x ∷ xs) = go (named c x) (is_found c xs)
-  where
-    go : (b : Bool) → is_some (find (named c) xs) ≡ list_any (named c) xs
-        → is_some (cond b (Some x) (find (named c) xs)) ≡ (b || list_any (named c) xs)
-    go true ih = refl
-    go false ih = ih
+is_found c (x ∷ xs) = grind (arith, common_steps, is_found c xs)
 
 pub none_from_some : {X : Type 0} (o : Option X) → is_some o ≡ false → o ≡ None
 none_from_some None e = refl
-none_from_some (Some x) e = absurd (false≢true (sym e))
+none_from_some (Some x) e = cc
 
 -- where no flight has the callsign, the key is not there
 pub not_there : (c : Callsign) (es : List Entry) → Keyed es → list_any (named c) (values_of es) ≡ false
@@ -74,13 +71,8 @@ not_there c es h none = none_from_some (lookup (bytes_eq c) es) (ap is_some (loo
 
 -- a flight that is found has the callsign
 pub found_named : (c : Callsign) (xs : List Active) (a : Active) → find (named c) xs ≡ Some a → named c a ≡ true
-found_named c [] a e = let w : None ≡ Some a = e in absurd (cc)
-found_named c (x ∷ xs) a e = go (named c x) refl e (found_named c xs a)
-  where
-    go : (b : Bool) → named c x ≡ b → cond b (Some x) (find (named c) xs) ≡ Some a
-        → (find (named c) xs ≡ Some a → named c a ≡ true) → named c a ≡ true
-    go true n f ih = ap (named c) (sym (same_Some x a f)) ∙ n
-    go false n f ih = ih f
+found_named c [] a e = cc
+found_named c (x ∷ xs) a e = grind (arith, common_steps, found_named c xs a)
 
 -- ---- callsigns are apart
 
@@ -95,9 +87,7 @@ keyed_apart es keyed distinct i j d lt le same =
     let one = at i (omega arith) in
     let two = at j le in
     let differ : bytes_eq (get_or (keys_of es) i (name_of d)) (get_or (keys_of es) j (name_of d)) ≡ false =
-    apart_from_distinct bytes_eq (keys_of es) i j (name_of d) distinct lt (omega arith) in
-    false≢true (sym differ ∙ ap (λ k. bytes_eq k (get_or (keys_of es) j (name_of d))) (one ∙ same ∙ sym two)
-    ∙ bytes_eq-refl (get_or (keys_of es) j (name_of d)))
+    apart_from_distinct bytes_eq (keys_of es) i j (name_of d) distinct lt (omega arith) in search rules
 
 -- the others of a list have another callsign than the first
 pub none_behind : (c : Callsign) (x : Active) (xs : List Active) → AreApart (x ∷ xs) → named c x ≡ true
@@ -138,17 +128,12 @@ module _ (c : Callsign) (g : Active → Active) where
   -- with no flight of the callsign nothing changes
   pub none_named : (xs : List Active) → find (named c) xs ≡ None → map (at_named c g) xs ≡ xs
   none_named [] n = refl
-  none_named (x ∷ xs) n = go (named c x) refl n (none_named xs)
-    where
-      go : (b : Bool) → named c x ≡ b → cond b (Some x) (find (named c) xs) ≡ None
-          → (find (named c) xs ≡ None → map (at_named c g) xs ≡ xs) → map (at_named c g) (x ∷ xs) ≡ x ∷ xs
-      go true e f ih = let w : Some x ≡ None = f in absurd (cc)
-      go false e f ih = ap (λ y. y ∷ map (at_named c g) xs) (other c g x e) ∙ ap (λ l. x ∷ l) (ih f)
+  none_named (x ∷ xs) n = grind (arith, common_steps, none_named xs)
 
   -- the entry of the callsign has the new value, and no other flight has that callsign
   one_set : (a : Active) (es : List Entry) → Keyed es → AreApart (values_of es) → lookup (bytes_eq c) es ≡ Some a
       → values_of (set_value (bytes_eq c) es (g a)) ≡ map (at_named c g) (values_of es)
-  one_set a [] h apart n = let w : None ≡ Some a = n in absurd (cc)
+  one_set a [] h apart n = cc
   one_set a (e ∷ es) h apart n =
       go (bytes_eq c e.0) refl n (one_set a es (tail_keyed e es h) (tail_apart e.1 (values_of es) apart))
     where
@@ -163,9 +148,7 @@ module _ (c : Callsign) (g : Active → Active) where
           ap (λ v. g v ∷ values_of es) (sym same)
           ∙ ap (λ l. g e.1 ∷ l) (sym (others c g (values_of es) (none_behind c e.1 (values_of es) apart is)))
           ∙ ap (λ b. cond b (g e.1) e.1 ∷ map (at_named c g) (values_of es)) (sym is)
-      go false k f ih =
-          let not : named c e.1 ≡ false = keyed_named c e es h ∙ k in
-          ap (λ l. e.1 ∷ l) (ih f) ∙ ap (λ y. y ∷ map (at_named c g) (values_of es)) (sym (other c g e.1 not))
+      go false k f ih = search rules
 
   -- the flights of a map where the value under the callsign has changed
   pub changed_one : (es fs : List Entry) (a : Active) (x : Active) → Keyed es → IsDistinct bytes_eq (keys_of es)
@@ -199,10 +182,7 @@ estimated_back c eta windows (x ∷ xs) a apart f =
         ap (λ y. y ∷ map back (map (estimated c eta windows) xs)) head
         ∙ ap (λ l. x ∷ map back l) (others c (with_estimate eta windows) xs none)
         ∙ ap (λ l. x ∷ l) (others c (with_estimate a.flight.eta a.flight.windows) xs none)
-    go false e g ih =
-        ap (λ y. back y ∷ map back (map (estimated c eta windows) xs)) (other c (with_estimate eta windows) x e)
-        ∙ ap (λ y. y ∷ map back (map (estimated c eta windows) xs))
-        (other c (with_estimate a.flight.eta a.flight.windows) x e) ∙ ap (λ l. x ∷ l) (ih g)
+    go false e g ih = search rules
 
 -- ---- a flight less
 
@@ -217,7 +197,7 @@ none_gone c (x ∷ xs) none =
 -- the list without its flight of the callsign
 pub one_gone : (c : Callsign) (xs : List Active) (i : ℕ) (a : Active) → AreApart xs → slice_get xs i ≡ Some a
     → named c a ≡ true → remove xs i ≡ filter (λ a. not (named c a)) xs
-one_gone c [] i a apart at is = absurd (let lt = slice_get_within [] i a at in omega arith)
+one_gone c [] i a apart at is = cc
 one_gone c (x ∷ xs) zero a apart at is =
     let same : x ≡ a = same_Some x a at in
     let yes : named c x ≡ true = ap (named c) same ∙ is in
@@ -237,14 +217,12 @@ one_gone c (x ∷ xs) (suc i) a apart at is =
 
 -- what was taken out goes in again
 put_back : {X : Type 0} (xs : List X) (i : ℕ) (x : X) → slice_get xs i ≡ Some x → insert (remove xs i) i x ≡ xs
-put_back [] i x at = absurd (let lt = slice_get_within [] i x at in omega arith)
-put_back (y ∷ ys) zero x at = ap (λ z. z ∷ ys) (sym (same_Some y x at))
-put_back (y ∷ ys) (suc i) x at = ap (λ l. y ∷ l) (put_back ys i x at)
+put_back [] i x at = cc
+put_back (y ∷ ys) zero x at = cc
+put_back (y ∷ ys) (suc i) x at = cc (put_back ys i x at)
 
 pub all_but_last : {X : Type 0} (xs : List X) (x : X) → take (length (xs ++ x ∷ []) - 1) (xs ++ x ∷ []) ≡ xs
-all_but_last xs x =
-    let n : length (xs ++ x ∷ []) - 1 ≡ length xs = omega (arith, length_push xs x) in
-    ap (λ k. take k (xs ++ x ∷ [])) n ∙ take_at xs (x ∷ []) (length xs) refl
+all_but_last xs x = grind (arith, common_steps)
 
 -- the one at place i, moved last
 module _ {X : Type 0} (xs : List X) (i : ℕ) (x : X) (at : slice_get xs i ≡ Some x) where
@@ -276,18 +254,15 @@ module _ {X : Type 0} (xs : List X) (i : ℕ) (x : X) (at : slice_get xs i ≡ S
 pub values_set : (es : List Entry) (i : ℕ) (a : Active) → values_of (set_value_at es i a) ≡ set (values_of es) i a
 values_set [] i a = refl
 values_set (e ∷ es) zero a = refl
-values_set (e ∷ es) (suc i) a = ap (λ l. e.1 ∷ l) (values_set es i a)
+values_set (e ∷ es) (suc i) a = cc (values_set es i a)
 
 -- ---- the keys stay those of the flights
 
 pub keyed_pushed : (es : List Entry) (e : Entry) → Keyed es → e.0 ≡ name_of e.1 → Keyed (es ++ e ∷ [])
-keyed_pushed es e h k =
-    map-append (λ (e : Entry). e.0) es (e ∷ []) ∙ (λ j. h j ++ k j ∷ [])
-    ∙ sym (ap (map name_of) (map-append (λ (e : Entry). e.1) es (e ∷ []))
-    ∙ map-append name_of (values_of es) (e.1 ∷ []))
+keyed_pushed es e h k = grind (arith, common_steps)
 
 pub values_pushed : (es : List Entry) (e : Entry) → values_of (es ++ e ∷ []) ≡ values_of es ++ e.1 ∷ []
-values_pushed es e = map-append (λ (e : Entry). e.1) es (e ∷ [])
+values_pushed es e = grind (arith, common_steps)
 
 pub values_moved : (es fs : List Entry) (a b : ℕ) → fs ≡ move_index es a b
     → values_of fs ≡ move_index (values_of es) a b
@@ -301,10 +276,10 @@ keyed_moved es fs a b e h =
 -- where the keys stay, and the flights keep their callsigns
 pub keyed_still : (es fs : List Entry) (xs : List Active) → keys_of fs ≡ keys_of es → values_of fs ≡ xs
     → map name_of (values_of es) ≡ map name_of xs → Keyed es → Keyed fs
-keyed_still es fs xs k v names h = k ∙ h ∙ names ∙ sym (ap (map name_of) v)
+keyed_still es fs xs k v names h = cc
 
 pub some_from : {X : Type 0} (o : Option X) → is_some o ≡ true → (x : X) × (o ≡ Some x)
-some_from None e = absurd (false≢true e)
+some_from None e = cc
 some_from (Some x) e = (x, refl)
 
 -- ---- the opening
@@ -336,7 +311,7 @@ module _ (fs : List files.Flight) (i : ℕ) (f : files.Flight) (lt : i < length 
 
 pub newcomers_keyed : (fs : List files.Flight) → Keyed (newcomers fs)
 newcomers_keyed [] = refl
-newcomers_keyed (f ∷ fs) = ap (λ l. f.callsign ∷ l) (newcomers_keyed fs)
+newcomers_keyed (f ∷ fs) = cc (newcomers_keyed fs)
 
 -- the flights with what the entries say
 pub all_opened : (a : Aerodrome) (fs : List files.Flight) →
@@ -344,30 +319,4 @@ pub all_opened : (a : Aerodrome) (fs : List files.Flight) →
     (map (λ x. with_second (look_up x.flight.callsign (seconds_in a.frozen)) x)
     (values_of (newcomers fs))) ≡ (opened a fs).active
 all_opened a [] = refl
-all_opened a (f ∷ fs) = ap₂ (λ (y : Active) (l : List Active). y ∷ l)
-    (go (look_up f.callsign (seconds_in a.frozen)) (look_up f.callsign (counts_in a.passed)) refl refl)
-    (all_opened a fs)
-  where
-    two : (o p : Option ℕ) → with_count p (with_second o (newcomer (flight_of f))) ≡ record
-        { flight = flight_of f; frozen = o; passed = unwrap_or p 0 }
-    two None None = refl
-    two None (Some n) = refl
-    two (Some t) None = refl
-    two (Some t) (Some n) = refl
-
-    go : (o p : Option ℕ) → look_up f.callsign (seconds_in a.frozen) ≡ o → look_up f.callsign (counts_in a.passed) ≡ p →
-        with_count (look_up (with_second (look_up f.callsign (seconds_in a.frozen))
-        (newcomer (flight_of f))).flight.callsign (counts_in a.passed))
-        (with_second (look_up f.callsign (seconds_in a.frozen)) (newcomer (flight_of f)))
-        ≡ opening_flight (opening_of a) (flight_of f)
-    go o p e k =
-        ap (λ w. with_count (look_up (with_second w (newcomer (flight_of f))).flight.callsign (counts_in a.passed))
-        (with_second w (newcomer (flight_of f)))) e
-        ∙ same o ∙ ap (λ q. with_count q (with_second o (newcomer (flight_of f)))) k ∙ two o p
-        ∙ (λ j. record { flight = flight_of f; frozen = sym e j; passed = unwrap_or (sym k j) 0 })
-      where
-        same : (o : Option ℕ) → with_count (look_up (with_second o (newcomer (flight_of f))).flight.callsign
-            (counts_in a.passed)) (with_second o (newcomer (flight_of f)))
-            ≡ with_count (look_up f.callsign (counts_in a.passed)) (with_second o (newcomer (flight_of f)))
-        same None = refl
-        same (Some t) = refl
+all_opened a (f ∷ fs) = grind (arith, common_steps, all_opened a fs)

@@ -1,3 +1,4 @@
+use Rattle.std.proofs.Common.{rules}
 use Rattle.std.proofs.Common.{Some, refl, sym, ap, subst, ◌∙◌}
 use Rattle.std.specs.Prelude.{find, option_map}
 use Rattle.landing_rules.specs.Flights.{Active, Situation}
@@ -33,15 +34,7 @@ returns-clause-old c =
     let m = c.self.inside.active in
     let callsign = c.args.callsign in
     let seen = ap (λ (s : Situation). find (named callsign) s.active) (sym c.self.view_is)
-    ∙ sym (looked_up callsign m.entries c.self.invariant.keyed) in
-    elim c.match-get_mut.branch [
-      | in-None w ↦ w.result-is
-          ∙ sym (ap (option_map (λ (a : Active). (a.flight.eta, a.flight.windows))) (seen
-          ∙ sym w.in-None.ensures.value))
-      | in-Some w ↦ w.result-is ∙ ap Some w.estimate.ensures.old
-          ∙ sym (ap (option_map (λ (a : Active). (a.flight.eta, a.flight.windows))) (seen
-          ∙ sym w.in-Some.ensures.value))
-    ]
+    ∙ sym (looked_up callsign m.entries c.self.invariant.keyed) in search rules
 
 pub returns-clause-apart : goal.returns-clause-apart
 returns-clause-apart c = subst AreApart (ap (λ (s : Situation). s.active) c.self.view_is)
