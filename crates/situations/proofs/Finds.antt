@@ -42,17 +42,11 @@ none-insert t f (g ∷ rest) le n = grind (arith, common_steps, none-insert t f 
 
 order-insert : (f : Landing) (all : List Landing) → InOrder all → InOrder (insert_landing f all)
 order-insert f [] o = (tt, tt)
-order-insert f (g ∷ rest) o = go (nat_lt g.second f.second) refl (order-insert f rest o.1)
-  where
-    go : (b : Bool) → nat_lt g.second f.second ≡ b → InOrder (insert_landing f rest)
-        → InOrder (cond b (g ∷ insert_landing f rest) (f ∷ g ∷ rest))
-    go true e ih = let lt = ltb-true g.second f.second e in (none-insert g.second f rest (omega arith) o.0, ih)
-    go false e ih = let le = ltb-false g.second f.second e in
-        ((le, none-weaker f.second g.second rest le o.0), (o.0, o.1))
+order-insert f (g ∷ rest) o = search (rules, none-insert, none-weaker, order-insert f rest o.1)
 
 pub in-order : (all : List Landing) → InOrder (in_landing_order all)
 in-order [] = tt
-in-order (f ∷ rest) = order-insert f (in_landing_order rest) (in-order rest)
+in-order (f ∷ rest) = search (rules, order-insert, in-order rest)
 
 -- the landing f where it passes and is no later than what was found, and else what was found
 abbrev pub sooner : Bool → Landing → Option Landing → Option Landing
@@ -80,31 +74,7 @@ pub find-insert : (span : Span) (f : Landing) (all : List Landing) → InOrder a
     → find (λ g. is_shut g.second span) (insert_landing f all) ≡ sooner (is_shut f.second span) f
     (find (λ g. is_shut g.second span) all)
 find-insert span f [] o = refl
-find-insert span f (g ∷ rest) o = go (nat_lt g.second f.second) refl (find-insert span f rest o.1)
-  where
-    before : g.second < f.second → (u : Bool)
-        → find (λ x. is_shut x.second span) (insert_landing f rest) ≡ sooner (is_shut f.second span) f
-        (find (λ x. is_shut x.second span) rest) →
-        cond u (Some g) (find (λ x. is_shut x.second span) (insert_landing f rest)) ≡ sooner
-        (is_shut f.second span) f (cond u (Some g) (find (λ x. is_shut x.second span) rest))
-    before lt true ih = search rules
-    before lt false ih = ih
-
-    behind : f.second ≤ g.second → (v : Bool)
-        → cond v (Some f) (find (λ x. is_shut x.second span) (g ∷ rest)) ≡ sooner v f
-        (find (λ x. is_shut x.second span) (g ∷ rest))
-    behind le true = sooner-first f (find (λ x. is_shut x.second span) (g ∷ rest))
-        (λ x e. found-late f.second (λ x. is_shut x.second span) (g ∷ rest) x
-        (le, none-weaker f.second g.second rest le o.0) e)
-    behind le false = search rules
-
-    go : (b : Bool) → nat_lt g.second f.second ≡ b
-        → find (λ x. is_shut x.second span) (insert_landing f rest) ≡ sooner (is_shut f.second span) f
-        (find (λ x. is_shut x.second span) rest) →
-        find (λ x. is_shut x.second span) (cond b (g ∷ insert_landing f rest) (f ∷ g ∷ rest)) ≡ sooner
-        (is_shut f.second span) f (find (λ x. is_shut x.second span) (g ∷ rest))
-    go true e ih = search rules
-    go false e ih = behind (ltb-false g.second f.second e) (is_shut f.second span)
+find-insert span f (g ∷ rest) o = search (rules, found-late, find-insert span f rest o.1)
 
 abbrev pub named_second : Landing → Callsign × ℕ
 named_second g = (g.flight.callsign, g.second)
@@ -114,28 +84,7 @@ pub covered : (span : Span) (xs : List Active)
     → earliest_covered span xs ≡ option_map named_second
     (find (λ g. is_shut g.second span) (in_landing_order (filter_map (λ a. option_map (landing a) a.frozen) xs)))
 covered span [] = refl
-covered span (x ∷ xs) = go x.frozen (covered span xs)
-  where
-    same : (v : Bool) (t : ℕ) (o : Option Landing) → is_shut t span ≡ v
-        → earlier_at span x.flight.callsign (Some t) (option_map named_second o) ≡ option_map named_second
-        (sooner v (landing x t) o)
-    same true t None e = cc
-    same false t None e = cc
-    same v t (Some g) e = search rules
-
-    go : (o : Option ℕ) → earliest_covered span xs ≡ option_map named_second
-        (find (λ g. is_shut g.second span) (in_landing_order (filter_map (λ a. option_map (landing a) a.frozen) xs))) →
-        earlier_at span x.flight.callsign o (earliest_covered span xs) ≡ option_map named_second
-        (find (λ g. is_shut g.second span)
-        (in_landing_order (cons_option (option_map (landing x) o)
-        (filter_map (λ a. option_map (landing a) a.frozen) xs))))
-    go None ih = ih
-    go (Some t) ih =
-        let L : List Landing = in_landing_order (filter_map (λ a. option_map (landing a) a.frozen) xs) in
-        ap (earlier_at span x.flight.callsign (Some t)) ih
-        ∙ same (is_shut t span) t (find (λ g. is_shut g.second span) L) refl
-        ∙ ap (option_map named_second)
-        (sym (find-insert span (landing x t) L (in-order (filter_map (λ a. option_map (landing a) a.frozen) xs))))
+covered span (x ∷ xs) = search (rules, find-insert, in-order, covered span xs)
 
 abbrev pub CoversAnswer : Option (Callsign × ℕ) → ℕ → Option Refusal
 CoversAnswer found n = if is_some found then option_map (λ g. CoversFrozen g.0 g.1) found

@@ -1,4 +1,5 @@
 -- What stands first in a list.
+use Rattle.std.proofs.Common.{rules}
 use Rattle.std.proofs.lemmas.Grind.{common_steps}
 use Rattle.std.proofs.Common.{◌≡◌, ℕ, suc, ◌+◌, ◌≤◌, Bool, true, false, not, cond, arith, List, [], ◌∷◌, ◌++◌, length}
 use Rattle.std.proofs.Common.{drop, Option, Some, None, refl, sym, ap, ◌∙◌, append_assoc}
@@ -24,8 +25,7 @@ module _ {X : Type 0} (ok : X → Bool) (fault : ℕ → OpeningFault) where
 
   pub first_place : (n : ℕ) (xs : List X) (at : Option ℕ) → at ≡ position (λ x. not (ok x)) xs
       → option_map (λ i. fault (i + n)) at ≡ first_from (λ i x. unless (ok x) (fault i)) n xs
-  first_place n xs at e = ap (option_map (λ i. fault (i + n))) (e ∙ position_from-zero (λ x. not (ok x)) xs)
-      ∙ from_place n 0 xs ∙ ap (λ m. first_from (λ i x. unless (ok x) (fault i)) m xs) (omega arith)
+  first_place n xs at e = search (rules, position_from-zero, from_place)
 
 -- the first answer along the elements with their numbers from 0 is the first fault with their places from 1
 pub first_numbered : {X : Type 0} (fault_at : ℕ → X → Option OpeningFault) (n : ℕ) (xs : List X)

@@ -100,11 +100,7 @@ pub freezing-step : (h i : ℕ) (active : List Active) (ts : List ℕ) (a : Acti
     → length active ≡ length ts → i < length ts → a ≡ get_or active i a →
     now ≡ freezing h (take i active) (take i ts) → new ≡ now ++ arrival_if h (landing a (get_or ts i 0))
     → new ≡ freezing h (take (i + 1) active) (take (i + 1) ts)
-freezing-step h i active ts a now new n l at e set =
-    let m : i + 1 ≡ suc i = omega arith in
-    set ∙ ap (λ l. l ++ arrival_if h (landing a (get_or ts i 0))) e
-    ∙ ap (λ (x : Active). freezing h (take i active) (take i ts) ++ arrival_if h (landing x (get_or ts i 0))) at
-    ∙ freezing-more h i active ts a n l ∙ ap (λ j. freezing h (take j active) (take j ts)) (sym m)
+freezing-step h i active ts a now new n l at e set = search (rules, freezing-more)
 
 -- ---- and what a clock event makes of a flight
 

@@ -51,9 +51,7 @@ keyed_named c e es h = search rules
 -- what the map finds is the first flight of the callsign
 pub looked_up : (c : Callsign) (es : List Entry) → Keyed es → lookup (bytes_eq c) es ≡ find (named c) (values_of es)
 looked_up c [] h = refl
-looked_up c (e ∷ es) h =
-    ap (λ b. cond b (Some e.1) (lookup (bytes_eq c) es)) (sym (keyed_named c e es h))
-    ∙ ap (λ o. cond (named c e.1) (Some e.1) o) (looked_up c es (tail_keyed e es h))
+looked_up c (e ∷ es) h = search (rules, looked_up c es (tail_keyed e es h))
 
 pub is_found : (c : Callsign) (xs : List Active) → is_some (find (named c) xs) ≡ list_any (named c) xs
 is_found c [] = refl
@@ -66,8 +64,7 @@ none_from_some (Some x) e = cc
 -- where no flight has the callsign, the key is not there
 pub not_there : (c : Callsign) (es : List Entry) → Keyed es → list_any (named c) (values_of es) ≡ false
     → lookup (bytes_eq c) es ≡ None
-not_there c es h none = none_from_some (lookup (bytes_eq c) es) (ap is_some (looked_up c es h)
-    ∙ is_found c (values_of es) ∙ none)
+not_there c es h none = search (rules, none_from_some, looked_up, is_found)
 
 -- a flight that is found has the callsign
 pub found_named : (c : Callsign) (xs : List Active) (a : Active) → find (named c) xs ≡ Some a → named c a ≡ true
@@ -134,28 +131,13 @@ module _ (c : Callsign) (g : Active → Active) where
   one_set : (a : Active) (es : List Entry) → Keyed es → AreApart (values_of es) → lookup (bytes_eq c) es ≡ Some a
       → values_of (set_value (bytes_eq c) es (g a)) ≡ map (at_named c g) (values_of es)
   one_set a [] h apart n = cc
-  one_set a (e ∷ es) h apart n =
-      go (bytes_eq c e.0) refl n (one_set a es (tail_keyed e es h) (tail_apart e.1 (values_of es) apart))
-    where
-      go : (b : Bool) → bytes_eq c e.0 ≡ b → cond b (Some e.1) (lookup (bytes_eq c) es) ≡ Some a →
-          (lookup (bytes_eq c) es ≡ Some a → values_of (set_value (bytes_eq c) es (g a)) ≡ map
-          (at_named c g) (values_of es)) →
-          values_of (cond b ((e.0, g a) ∷ es) (e ∷ set_value (bytes_eq c) es (g a))) ≡ map
-          (at_named c g) (values_of (e ∷ es))
-      go true k f ih =
-          let is : named c e.1 ≡ true = keyed_named c e es h ∙ k in
-          let same : e.1 ≡ a = same_Some e.1 a f in
-          ap (λ v. g v ∷ values_of es) (sym same)
-          ∙ ap (λ l. g e.1 ∷ l) (sym (others c g (values_of es) (none_behind c e.1 (values_of es) apart is)))
-          ∙ ap (λ b. cond b (g e.1) e.1 ∷ map (at_named c g) (values_of es)) (sym is)
-      go false k f ih = search rules
+  one_set a (e ∷ es) h apart n = search (rules, others, none_behind, one_set a es (tail_keyed e es h) (tail_apart e.1 (values_of es) apart))
 
   -- the flights of a map where the value under the callsign has changed
   pub changed_one : (es fs : List Entry) (a : Active) (x : Active) → Keyed es → IsDistinct bytes_eq (keys_of es)
       → lookup (bytes_eq c) es ≡ Some a → x ≡ g a → fs ≡ set_value (bytes_eq c) es x →
       values_of fs ≡ map (at_named c g) (values_of es)
-  changed_one es fs a x h distinct n new e = ap values_of e ∙ ap (λ v. values_of (set_value (bytes_eq c) es v)) new
-      ∙ one_set a es h (keyed_apart es h distinct) n
+  changed_one es fs a x h distinct n new e = search (rules, one_set, keyed_apart)
 
 -- the estimate that it had gives the flight back
 pub estimated_back : (c : Callsign) (eta : ℕ) (windows : List Span) (xs : List Active) (a : Active)
@@ -198,11 +180,7 @@ none_gone c (x ∷ xs) none =
 pub one_gone : (c : Callsign) (xs : List Active) (i : ℕ) (a : Active) → AreApart xs → slice_get xs i ≡ Some a
     → named c a ≡ true → remove xs i ≡ filter (λ a. not (named c a)) xs
 one_gone c [] i a apart at is = cc
-one_gone c (x ∷ xs) zero a apart at is =
-    let same : x ≡ a = same_Some x a at in
-    let yes : named c x ≡ true = ap (named c) same ∙ is in
-    none_gone c xs (none_behind c x xs apart yes)
-    ∙ ap (λ b. cond (not b) (x ∷ filter (λ a. not (named c a)) xs) (filter (λ a. not (named c a)) xs)) (sym yes)
+one_gone c (x ∷ xs) zero a apart at is = search (rules, none_gone, none_behind)
 one_gone c (x ∷ xs) (suc i) a apart at is =
     let lt = slice_get_within (x ∷ xs) (suc i) a at in
     let here : get_or (x ∷ xs) (suc i) a ≡ a = get_or_from_slice_get (x ∷ xs) (suc i) a a at in
@@ -231,23 +209,17 @@ module _ {X : Type 0} (xs : List X) (i : ℕ) (x : X) (at : slice_get xs i ≡ S
 
   -- it can be left out
   pub last_gone : take (length (move_index xs i (length xs - 1)) - 1) (move_index xs i (length xs - 1)) ≡ remove xs i
-  last_gone = ap (λ l. take (length l - 1) l) moved ∙ all_but_last (remove xs i) x
+  last_gone = simp (moved, all_but_last)
 
   -- and goes back
   pub moved_back : move_index (move_index xs i (length xs - 1)) (length (move_index xs i (length xs - 1)) - 1) i ≡ xs
   moved_back =
       let lt = slice_get_within xs i x at in
       let n = length-remove xs i lt in
-      let m : length (remove xs i ++ x ∷ []) - 1 ≡ length (remove xs i) = omega (arith, length_push (remove xs i) x) in
-      ap (λ l. move_index l (length l - 1) i) moved ∙ ap (λ k. move_index (remove xs i ++ x ∷ []) k i) m
-      ∙ push_moved (remove xs i) x i (omega arith) ∙ put_back xs i x at
+      let m : length (remove xs i ++ x ∷ []) - 1 ≡ length (remove xs i) = omega (arith, length_push (remove xs i) x) in search (rules, moved, push_moved, put_back)
 
   pub moved_long : length (move_index xs i (length xs - 1)) ≡ length xs
-  moved_long =
-      let lt = slice_get_within xs i x at in
-      let n = length-remove xs i lt in
-      let m = length_push (remove xs i) x in
-      ap length moved ∙ omega arith
+  moved_long = search (rules, slice_get_within, length-remove, length_push, moved)
 
 -- ---- by place
 
@@ -266,12 +238,10 @@ values_pushed es e = grind (arith, common_steps)
 
 pub values_moved : (es fs : List Entry) (a b : ℕ) → fs ≡ move_index es a b
     → values_of fs ≡ move_index (values_of es) a b
-values_moved es fs a b e = ap values_of e ∙ map-move (λ (e : Entry). e.1) es a b
+values_moved es fs a b e = search (rules, map-move)
 
 pub keyed_moved : (es fs : List Entry) (a b : ℕ) → fs ≡ move_index es a b → Keyed es → Keyed fs
-keyed_moved es fs a b e h =
-    ap keys_of e ∙ map-move (λ (e : Entry). e.0) es a b ∙ ap (λ l. move_index l a b) h
-    ∙ sym (map-move name_of (values_of es) a b) ∙ sym (ap (map name_of) (values_moved es fs a b e))
+keyed_moved es fs a b e h = search (rules, map-move)
 
 -- where the keys stay, and the flights keep their callsigns
 pub keyed_still : (es fs : List Entry) (xs : List Active) → keys_of fs ≡ keys_of es → values_of fs ≡ xs

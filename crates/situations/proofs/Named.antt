@@ -33,10 +33,7 @@ module _ (f : Option ℕ → Active → Active) (c : Callsign) (n : ℕ) (one : 
     (first : (o : Option ℕ) (a : Active) → one (f o a) ≡ f (cond (named c a) (Some n) o) a) where
   listed_more : (es : List (Callsign × ℕ)) (xs : List Active) → map one (listed f es xs) ≡ listed f ((c, n) ∷ es) xs
   listed_more es [] = refl
-  listed_more es (x ∷ xs) =
-      ap (λ y. y ∷ map one (listed f es xs)) (first (look_up x.flight.callsign es) x
-      ∙ ap (λ b. f (cond b (Some n) (look_up x.flight.callsign es)) x) (bytes_eq-sym x.flight.callsign c))
-      ∙ ap (λ l. f (look_up x.flight.callsign ((c, n) ∷ es)) x ∷ l) (listed_more es xs)
+  listed_more es (x ∷ xs) = search (rules, listed_more es xs)
 
 -- the entries of a list from its last to its first
 module _ {E : Type 0} (f : Option ℕ → Active → Active) (entries : List E → List (Callsign × ℕ)) (all : List E)
@@ -46,22 +43,14 @@ module _ {E : Type 0} (f : Option ℕ → Active → Active) (entries : List E �
   IsAsFrom i now = now ≡ record s { active = listed f (entries (drop i all)) s.active }
 
   pub as_from_end : ((a : Active) → f None a ≡ a) → entries [] ≡ [] → IsAsFrom (length all) s
-  as_from_end stays none = ap (λ l. record s { active = l }) (none_listed f stays s.active
-      ∙ ap (λ l. listed f l s.active) (sym (ap entries (drop-length all) ∙ none)))
+  as_from_end stays none = search (rules, none_listed, drop-length)
 
   pub as_from_before : (c : Callsign) (n : ℕ) (one : Active → Active)
       → ((o : Option ℕ) (a : Active) → one (f o a) ≡ f (cond (named c a) (Some n) o) a)
       → (i : ℕ) (e : E) (now new : Situation) → 0 < i → i ≤ length all → e ≡ get_or all (i - 1) e
       → ((es : List E) → entries (e ∷ es) ≡ (c, n) ∷ entries es) → IsAsFrom i now
       → new ≡ record now { active = map one now.active } → IsAsFrom (i - 1) new
-  as_from_before c n one first i e now new some within is here so_far set =
-      let next : i - 1 + 1 ≡ i = omega arith in
-      let more : entries (drop (i - 1) all) ≡ (c, n) ∷ entries (drop i all) =
-      ap entries (drop_more all (i - 1) e (omega arith) ∙ ap (λ x. x ∷ drop (i - 1 + 1) all) (sym is)
-      ∙ ap (λ n. e ∷ drop n all) next) ∙ here (drop i all) in
-      set ∙ ap (λ (v : Situation). record v { active = map one v.active }) so_far
-      ∙ ap (λ l. record s { active = l }) (listed_more f c n one first (entries (drop i all)) s.active
-      ∙ ap (λ l. listed f l s.active) (sym more))
+  as_from_before c n one first i e now new some within is here so_far set = search (rules, drop_more, listed_more)
 
   pub as_from_begin : (i : ℕ) (now : Situation) → i ≤ 0 → IsAsFrom i now → IsAsFrom 0 now
   as_from_begin i now none so_far = search rules
@@ -101,16 +90,7 @@ none_counted c (x ∷ xs) none = go (is_waiting x) (none_counted c xs (λ j d lt
 pub own_count : (xs : List Active) → AreApart xs → (i : ℕ) (d : Active) → i < length xs
     → look_up (get_or xs i d).flight.callsign (counts_of xs) ≡ noted (get_or xs i d)
 own_count [] apart i d lt = absurd (omega arith)
-own_count (x ∷ xs) apart zero d lt = go (is_waiting x) refl
-  where
-    own : named x.flight.callsign x ≡ true
-    own = search rules
-
-    go : (b : Bool) → is_waiting x ≡ b
-        → look_up x.flight.callsign (map (λ a. (a.flight.callsign, a.passed))
-        (cond b (x ∷ filter is_waiting xs) (filter is_waiting xs))) ≡ cond b (Some x.passed) None
-    go true e = search rules
-    go false e = none_counted x.flight.callsign xs (none_behind x.flight.callsign x xs apart own)
+own_count (x ∷ xs) apart zero d lt = search (rules, none_counted, none_behind)
 own_count (x ∷ xs) apart (suc i) d lt = go (is_waiting x) (own_count xs (tail_apart x xs apart) i d (omega arith))
   where
     y : Active

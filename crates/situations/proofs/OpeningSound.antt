@@ -60,16 +60,8 @@ clash_none : (table : List (List ℕ)) (p : ℕ) (xs : List Landing) → clash_f
     → is_pair_separated table g h ≡ true
 clash_none table p [] e g h m k n = absurd m
 clash_none table p (x ∷ xs) e g h (inl s) (inl t) n = search rules
-clash_none table p (x ∷ xs) e g h (inl s) (inr k) n =
-    let firsts = first_none (clash_at table p x) (p + 1) xs
-    (or_none (first_from (clash_at table p x) (p + 1) xs) (clash_from table (p + 1) xs) e).0 h k in
-    let both = and_parts (is_pair_separated table x h) (is_pair_separated table h x)
-    (unless_none (are_apart table x h) (fault.FrozenSeparation p firsts.0) firsts.1) in cc
-clash_none table p (x ∷ xs) e g h (inr m) (inl t) n =
-    let firsts = first_none (clash_at table p x) (p + 1) xs
-    (or_none (first_from (clash_at table p x) (p + 1) xs) (clash_from table (p + 1) xs) e).0 g m in
-    let both = and_parts (is_pair_separated table x g) (is_pair_separated table g x)
-    (unless_none (are_apart table x g) (fault.FrozenSeparation p firsts.0) firsts.1) in cc
+clash_none table p (x ∷ xs) e g h (inl s) (inr k) n = grind (arith, first_none (clash_at table p x) (p + 1) xs (or_none (first_from (clash_at table p x) (p + 1) xs) (clash_from table (p + 1) xs) e).0 h k)
+clash_none table p (x ∷ xs) e g h (inr m) (inl t) n = grind (arith, first_none (clash_at table p x) (p + 1) xs (or_none (first_from (clash_at table p x) (p + 1) xs) (clash_from table (p + 1) xs) e).0 g m)
 clash_none table p (x ∷ xs) e g h (inr m) (inr k) n =
     clash_none table (p + 1) xs (or_none (first_from (clash_at table p x) (p + 1) xs) (clash_from table (p + 1) xs) e).1
     g h m k n
@@ -200,9 +192,7 @@ module _ (a : Aerodrome) (fs : List files.Flight) (kept : AreKept a fs) (can : C
 
   frozen_of : (f : Landing) → Member f (frozen_landings s) → (x : Active) × Member x s.active
       × (x.frozen ≡ Some f.second) × (f ≡ landing x f.second)
-  frozen_of f m =
-      let r = in_frozen s.active f m in
-      let at : r.1 ≡ f.second = sym (ap (λ (g : Landing). g.second) r.4) in search rules
+  frozen_of f m = search (rules, in_frozen)
 
   of_file : (f : Landing) → Member f (frozen_landings s) → IsOfFile f
   of_file f m =
@@ -218,17 +208,7 @@ module _ (a : Aerodrome) (fs : List files.Flight) (kept : AreKept a fs) (can : C
       ap (λ c. option_map (λ (z : Active). landing z e.0.second) (find (named c) s.active)) named_own
       ∙ ap (option_map (λ (z : Active). landing z e.0.second)) (find_own x.0 s.active apart x.1)
       ∙ ap (λ t. Some (landing x.0 t)) e.3
-      ∙ ap (λ z. Some z) (sym x.3) in
-      record {
-        flight = x.0;
-        active = x.1;
-        frozen = x.2;
-        is = x.3;
-        entry = e.0;
-        in_file = e.1;
-        second = e.3;
-        in_all = filter_map_in (given_landing s.active) a.frozen e.0 f e.1 given_own;
-      }
+      ∙ ap (λ z. Some z) (sym x.3) in search (rules, filter_map_in)
 
   -- ---- and keep the rules
 
@@ -247,14 +227,7 @@ module _ (a : Aerodrome) (fs : List files.Flight) (kept : AreKept a fs) (can : C
   -- one that a frozen flight lists is frozen at an earlier second
   earlier : (g : Landing) → Member g (frozen_landings s) → (x : Active) → Member x s.active
       → lists g.flight x.flight.callsign ≡ true → is_not_before g.second x.frozen ≡ false
-  earlier g m x k e =
-      let h = first_none (late_at s.active) 1 all no_late g (of_file g m).in_all in
-      let no = map_none (fault.FrozenPrecedence h.0) (find (lands_late s.active g.second) g.flight.after) h.1 in
-      let d = any_member (λ d. bytes_eq d x.flight.callsign) g.flight.after e in
-      let is : d.0 ≡ x.flight.callsign = bytes_eq-true d.0 x.flight.callsign d.2 in
-      let early = none_found (lands_late s.active g.second) g.flight.after d.0 no d.1 in
-      let test = none_any (λ (z : Active). named d.0 z && is_not_before g.second z.frozen) s.active x early k in
-      let same : named d.0 x ≡ true = ap (bytes_eq x.flight.callsign) is ∙ bytes_eq-refl x.flight.callsign in cc
+  earlier g m x k e = search (rules, first_none, of_file, any_member, none_found, none_any)
 
   in_precedence : AreInPrecedence (frozen_landings s)
   in_precedence = all_from (λ f. All (IsPairInPrecedence f) (frozen_landings s)) (frozen_landings s) (λ f m.

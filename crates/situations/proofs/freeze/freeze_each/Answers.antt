@@ -1,3 +1,4 @@
+use Rattle.std.proofs.Common.{rules}
 use Rattle.std.proofs.Common.{◌≡◌, ◌+◌, suc, get_or, set, sym, ap, ◌∙◌, arith}
 use Rattle.std.proofs.lemmas.Option.{get_or_from_slice_get}
 use Rattle.indexmap.specs.IndexMap.{values}
@@ -29,5 +30,4 @@ loop-i-preserved c =
     }
 
 pub returns-clause-flights : goal.returns-clause-flights
-returns-clause-flights c = c.loop-i.invariant.flights ∙ turned-all (frozen_one c.args.freeze.now) c.loop-i.i
-    (values c.args.active.now) c.args.seconds.now c.requires (omega (arith, c.loop-i-test.false, c.loop-i.auto.i-end))
+returns-clause-flights c = search (rules, turned-all)

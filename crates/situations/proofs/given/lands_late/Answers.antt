@@ -1,3 +1,4 @@
+use Rattle.std.proofs.Common.{arith}
 use Rattle.std.proofs.Common.{Option, false, ap, ◌∙◌}
 use Rattle.std.specs.Option.{option_map_or}
 use Rattle.landing_rules.specs.Flights.{Active}
@@ -7,12 +8,8 @@ use Rattle.situations.proofs.given.lands_late.Goals as goal
 
 pub returns-in-None : goal.returns-in-None
 returns-in-None c =
-    let late = λ (a : Active). is_not_before c.args.second a.frozen in
-    ap (λ (o : Option Active). option_map_or late o false) c.in-None.ensures
-    ∙ any_named c.args.callsign late c.args.situation.now.active c.known_apart.ensures
+    let late = λ (a : Active). is_not_before c.args.second a.frozen in grind (arith, any_named c.args.callsign late c.args.situation.now.active c.known_apart.ensures)
 
 pub returns-in-Some : goal.returns-in-Some
 returns-in-Some c =
-    let late = λ (a : Active). is_not_before c.args.second a.frozen in
-    c.is_not_before.ensures ∙ ap (λ (o : Option Active). option_map_or late o false) c.in-Some.ensures
-    ∙ any_named c.args.callsign late c.args.situation.now.active c.known_apart.ensures
+    let late = λ (a : Active). is_not_before c.args.second a.frozen in grind (arith, any_named c.args.callsign late c.args.situation.now.active c.known_apart.ensures)

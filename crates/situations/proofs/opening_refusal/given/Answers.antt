@@ -11,8 +11,4 @@ pub loop-entry-preserved : goal.loop-entry-preserved
 loop-entry-preserved c = grind (arith, common_steps)
 
 pub returns-clause-few : goal.returns-clause-few
-returns-clause-few c =
-    let left = given c.args.situation.now.active (drop c.loop-entry.entry-index c.args.frozen.now) in
-    let n = ap length c.loop-entry.invariant in
-    let m = length-append c.loop-entry.all.items left in
-    let few = few_given (given_landing c.args.situation.now.active) c.args.frozen.now in omega arith
+returns-clause-few c = grind (arith, common_steps, few_given)

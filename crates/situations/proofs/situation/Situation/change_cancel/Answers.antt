@@ -1,3 +1,4 @@
+use Rattle.std.proofs.Common.{rules}
 use Rattle.std.proofs.Common.{refl, ◌-◌, is_some, sym, ap, ◌∙◌}
 use Rattle.std.specs.Prelude.{find}
 use Rattle.std.proofs.lemmas.Bool.{false≢true}
@@ -10,15 +11,10 @@ use Rattle.situations.proofs.Keyed.{found_named, keyed_moved, looked_up, some_fr
 use Rattle.situations.proofs.situation.Situation.change_cancel.Goals as goal
 
 pub unreachable-requires : goal.unreachable-requires
-unreachable-requires c =
-    let callsign = c.args.callsign in
-    false≢true (ap is_some (sym c.in-None.is) ∙ c.get_index_of.ensures.found
-    ∙ ap is_some (looked_up callsign c.self.inside.active.entries c.self.invariant.keyed)
-    ∙ ap (λ (s : Situation). is_some (find (named callsign) s.active)) c.self.view_is ∙ c.requires)
+unreachable-requires c = search (rules, looked_up)
 
 pub invariant_of-self : goal.invariant_of-self
-invariant_of-self c = in_step _ _ _ refl c.self.invariant (keyed_moved c.self.inside.active.entries
-    c.move_index.new.self.entries c.in-Some.place _ c.move_index.ensures.entries c.self.invariant.keyed)
+invariant_of-self c = search (rules, keyed_moved)
 
 pub returns : goal.returns
 returns c =

@@ -1,3 +1,4 @@
+use Rattle.std.proofs.Common.{arith, rules}
 use Rattle.std.proofs.Common.{refl}
 use Rattle.situations.specs.Named.{counted, with_count}
 use Rattle.situations.specs.Opened.{counts_in}
@@ -5,7 +6,7 @@ use Rattle.situations.proofs.Named.{as_from_before, as_from_begin, as_from_end, 
 use Rattle.situations.proofs.situation.Situation.count_listed.Goals as goal
 
 pub loop-i-init : goal.loop-i-init
-loop-i-init c = as_from_end with_count counts_in c.args.entries.now c.args.self.now (λ a. refl) refl
+loop-i-init c = search (rules, as_from_end)
 
 pub loop-i-preserved : goal.loop-i-preserved
 loop-i-preserved c =
@@ -16,5 +17,4 @@ loop-i-preserved c =
     c.set_passed.ensures
 
 pub returns : goal.returns
-returns c = as_from_begin with_count counts_in c.args.entries.now c.args.self.now c.loop-i.i _ c.loop-i-test.false
-    c.loop-i.invariant
+returns c = grind arith

@@ -27,15 +27,10 @@ pub invariant_of-self : goal.invariant_of-self
 invariant_of-self c = (changed c).0
 
 pub returns-clause-new : goal.returns-clause-new
-returns-clause-new c = rw (← c.self.view_is) (changed c).1
+returns-clause-new c = search (rules, changed)
 
 pub returns-clause-old : goal.returns-clause-old
-returns-clause-old c =
-    let m = c.self.inside.active in
-    let callsign = c.args.callsign in
-    let seen = ap (λ (s : Situation). find (named callsign) s.active) (sym c.self.view_is)
-    ∙ sym (looked_up callsign m.entries c.self.invariant.keyed) in search rules
+returns-clause-old c = search (rules, looked_up)
 
 pub returns-clause-apart : goal.returns-clause-apart
-returns-clause-apart c = subst AreApart (ap (λ (s : Situation). s.active) c.self.view_is)
-    (keyed_apart c.self.inside.active.entries c.self.invariant.keyed c.get_mut.ensures.unique)
+returns-clause-apart c = search (rules, keyed_apart)

@@ -1,3 +1,4 @@
+use Rattle.std.proofs.Common.{rules}
 use Rattle.std.proofs.Common.{refl, ◌-◌, sym, ap, ◌∙◌}
 use Rattle.std.proofs.lemmas.List.{length-map}
 use Rattle.indexmap.specs.IndexMap.{move_index, values}
@@ -14,8 +15,4 @@ pub returns : goal.returns
 returns c =
     let inside = c.self.inside in
     let es = inside.active.entries in
-    let vs = values inside.active in
-    rw (← c.self.view_is)
-    (ap (λ l. situation_of inside.fixed l inside.closures inside.clock)
-    (values_moved es c.move_index.new.self.entries _ c.args.place c.move_index.ensures.entries
-    ∙ ap (λ n. move_index vs (n - 1) c.args.place) (c.len-last.ensures.len ∙ sym (length-map es (λ e. e.1)))))
+    let vs = values inside.active in search (rules, values_moved, length-map)

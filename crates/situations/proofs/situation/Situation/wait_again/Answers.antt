@@ -1,3 +1,4 @@
+use Rattle.std.proofs.Common.{arith, rules}
 use Rattle.std.proofs.Common.{None, refl, ap, ◌∙◌}
 use Rattle.std.proofs.lemmas.Simd.{map-map}
 use Rattle.landing_rules.specs.Flights.{Active}
@@ -6,7 +7,7 @@ use Rattle.situations.proofs.Named.{again_first, as_from_before, as_from_begin, 
 use Rattle.situations.proofs.situation.Situation.wait_again.Goals as goal
 
 pub loop-i-init : goal.loop-i-init
-loop-i-init c = as_from_end waiting_again (λ counts. counts) c.args.counts.now c.args.self.now (λ a. refl) refl
+loop-i-init c = search (rules, as_from_end)
 
 pub loop-i-preserved : goal.loop-i-preserved
 loop-i-preserved c =
@@ -18,5 +19,4 @@ loop-i-preserved c =
     (map-map (counted e.0 e.1) (frozen_so e.0 None) c.loop-i.self.active))
 
 pub returns : goal.returns
-returns c = as_from_begin waiting_again (λ counts. counts) c.args.counts.now c.args.self.now c.loop-i.i _
-    c.loop-i-test.false c.loop-i.invariant
+returns c = grind arith
