@@ -37,10 +37,8 @@ pub cancelled_is : (f : Fixed) (closures : List Span) (clock : Option ℕ) (c : 
     (situation_of f (values_of fs) closures clock)
 cancelled_is f closures clock c es fs place a keyed distinct at is e =
     let vs = values_of es in
-    let long : length vs ≡ length es = length-map es (λ e. e.1) in
     let moved : values_of fs ≡ move_index vs place (length vs - 1) =
-    values_moved es fs place (length es - 1) e ∙ ap (λ n. move_index vs place (n - 1)) (sym long) in
-    let lt = slice_get_within vs place a at in
+    values_moved es fs place (length es - 1) e ∙ ap (λ n. move_index vs place (n - 1)) (sym (length-map es (λ e. e.1))) in
     let same : length (values_of fs) ≡ length vs = ap length moved ∙ moved_long vs place a at in grind (arith, common_steps, one_gone, keyed_apart, moved_back)
 
 pub frozen_is : (s now : Situation) (h n : ℕ) (ts : List ℕ) (clock : Option ℕ) (counts : Vec (Callsign × ℕ) Global)

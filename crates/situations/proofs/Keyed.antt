@@ -81,8 +81,6 @@ keyed_apart es keyed distinct i j d lt le same =
     let keys : length (keys_of es) ≡ length names = ap length keyed in
     let at : (k : ℕ) → k < length vs → get_or (keys_of es) k (name_of d) ≡ name_of (get_or vs k d) =
     λ k lk. ap (λ l. get_or l k (name_of d)) keyed ∙ get_or-map name_of vs k d (name_of d) lk in
-    let one = at i (omega arith) in
-    let two = at j le in
     let differ : bytes_eq (get_or (keys_of es) i (name_of d)) (get_or (keys_of es) j (name_of d)) ≡ false =
     apart_from_distinct bytes_eq (keys_of es) i j (name_of d) distinct lt (omega arith) in search rules
 
@@ -154,14 +152,11 @@ estimated_back c eta windows (x ∷ xs) a apart f =
         → (find (named c) xs ≡ Some a → map back (map (estimated c eta windows) xs) ≡ xs) →
         back (estimated c eta windows x) ∷ map back (map (estimated c eta windows) xs) ≡ x ∷ xs
     go true e g ih =
-        let same : x ≡ a = same_Some x a g in
         let none = none_behind c x xs apart e in
-        let head : back (estimated c eta windows x) ≡ x =
-        ap (λ b. back (cond b (with_estimate eta windows x) x)) e
+        ap (λ y. y ∷ map back (map (estimated c eta windows) xs)) (ap (λ b. back (cond b (with_estimate eta windows x) x)) e
         ∙ ap (λ b. cond b (with_estimate a.flight.eta a.flight.windows (with_estimate eta windows x))
         (with_estimate eta windows x)) e
-        ∙ ap (λ v. with_estimate v.flight.eta v.flight.windows (with_estimate eta windows x)) (sym same) in
-        ap (λ y. y ∷ map back (map (estimated c eta windows) xs)) head
+        ∙ ap (λ v. with_estimate v.flight.eta v.flight.windows (with_estimate eta windows x)) (sym (same_Some x a g)))
         ∙ ap (λ l. x ∷ map back l) (others c (with_estimate eta windows) xs none)
         ∙ ap (λ l. x ∷ l) (others c (with_estimate a.flight.eta a.flight.windows) xs none)
     go false e g ih = search rules

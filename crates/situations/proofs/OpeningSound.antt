@@ -97,8 +97,7 @@ find_own x (y ∷ ys) apart (inl s) = search rules
 find_own x (y ∷ ys) apart (inr m) =
     let n : y.flight.callsign ≢ x.flight.callsign =
     all_at (Differ y) ys (λ k d lt. apart zero (suc k) d (omega arith) (omega arith)) x m in
-    let other : bytes_eq y.flight.callsign x.flight.callsign ≡ false = differ y.flight.callsign x.flight.callsign n in
-    ap (λ b. cond b (Some y) (find (named x.flight.callsign) ys)) other
+    ap (λ b. cond b (Some y) (find (named x.flight.callsign) ys)) (differ y.flight.callsign x.flight.callsign n)
     ∙ find_own x ys (λ i j d l k. apart (suc i) (suc j) d (omega arith) (omega arith)) m
   where
     differ : (c d : List ℕ) → c ≢ d → bytes_eq c d ≡ false
@@ -165,8 +164,6 @@ module _ (a : Aerodrome) (fs : List files.Flight) (kept : AreKept a fs) (can : C
       let p = look_from (λ (p : PassedCount). (p.callsign, p.count)) f.callsign a.passed n e in
       let h = all_at (λ (p : PassedCount). (1 ≤ p.count)
       × (p.count ≤ a.k)) a.passed can.aerodrome.passed.counts p.0 p.1 in
-      let k : p.0.count ≤ a.k = h.1 in
-      let same : p.0.count ≡ n = p.3 in
       omega arith
 
   counted : All (λ (x : Active). x.passed ≤ a.k) s.active
@@ -200,12 +197,9 @@ module _ (a : Aerodrome) (fs : List files.Flight) (kept : AreKept a fs) (can : C
       let y = in_map made (map flight_of fs) x.0 x.1 in
       let g = in_map flight_of fs y.0 y.1 in
       let own : x.0 ≡ made (flight_of g.0) = y.2 ∙ ap made g.2 in
-      let looked : look_up g.0.callsign (map (λ (e : FrozenLanding). (e.callsign, e.second)) a.frozen) ≡ Some f.second =
-      sym (ap (λ (z : Active). z.frozen) own) ∙ x.2 in
-      let e = look_from (λ (e : FrozenLanding). (e.callsign, e.second)) g.0.callsign a.frozen f.second looked in
-      let named_own : e.0.callsign ≡ x.0.flight.callsign = e.2 ∙ sym (ap (λ (z : Active). z.flight.callsign) own) in
+      let e = look_from (λ (e : FrozenLanding). (e.callsign, e.second)) g.0.callsign a.frozen f.second (sym (ap (λ (z : Active). z.frozen) own) ∙ x.2) in
       let given_own : given_landing s.active e.0 ≡ Some f =
-      ap (λ c. option_map (λ (z : Active). landing z e.0.second) (find (named c) s.active)) named_own
+      ap (λ c. option_map (λ (z : Active). landing z e.0.second) (find (named c) s.active)) (e.2 ∙ sym (ap (λ (z : Active). z.flight.callsign) own))
       ∙ ap (option_map (λ (z : Active). landing z e.0.second)) (find_own x.0 s.active apart x.1)
       ∙ ap (λ t. Some (landing x.0 t)) e.3
       ∙ ap (λ z. Some z) (sym x.3) in search (rules, filter_map_in)
@@ -292,10 +286,6 @@ plain_opening a fs no_frozen no_passed few =
     let active = (opened a fs).active in
     let n : length active ≡ length fs = length-map (map flight_of fs) (opening_flight (opening_of a))
     ∙ length-map fs flight_of in
-    let wait : length (filter is_waiting active) ≤ most_waiting = omega (arith, fewer_kept is_waiting active) in
     let enough : too_many_waiting active ≡ None =
     ap (λ b. unless b (fault.TooManyWaiting (length (filter is_waiting active))))
-    (le-leb (length (filter is_waiting active)) most_waiting wait) in
-    let names : name_fault a active ≡ None =
-    ap₂ (λ f p. option_or (first_from (unknown_frozen_at active) 1 f)
-    (option_or (first_from (unknown_passed_at active) 1 p) (too_many_waiting active))) no_frozen no_passed ∙ enough in cc
+    (le-leb (length (filter is_waiting active)) most_waiting (omega (arith, fewer_kept is_waiting active))) in cc

@@ -22,6 +22,4 @@ pub invariant_of-self-2 : goal.invariant_of-self-2
 invariant_of-self-2 c = grind (arith, common_steps, last c)
 
 pub returns-clause-new : goal.returns-clause-new
-returns-clause-new c =
-    let d = (goal.at.returns-clause-new c).In_ok-insert in
-    let inside = c.self.inside in grind (arith, common_steps, last d)
+returns-clause-new c = grind (arith, common_steps, last ((goal.at.returns-clause-new c).In_ok-insert))

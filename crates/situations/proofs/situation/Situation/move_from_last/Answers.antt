@@ -12,7 +12,4 @@ invariant_of-self c = in_step _ _ _ refl c.self.invariant (keyed_moved c.self.in
     c.move_index.new.self.entries _ c.args.place c.move_index.ensures.entries c.self.invariant.keyed)
 
 pub returns : goal.returns
-returns c =
-    let inside = c.self.inside in
-    let es = inside.active.entries in
-    let vs = values inside.active in search (rules, values_moved, length-map)
+returns c = search (rules, values_moved, length-map)

@@ -16,11 +16,8 @@ with-situation-requires-clause-keyed c = search (rules, newcomers_keyed)
 opens : (c : After-count_listed) → c.count_listed.new.self ≡ opened c.args.aerodrome.now c.args.flights.now
 opens c =
     let a = c.args.aerodrome.now in
-    let fs = c.args.flights.now in
-    let made = c.with-situation.ensures.value
-    ∙ ap (λ l. record (opened a []) { active = values_of l }) c.in_ok-active.ensures in
-    let frozen = c.freeze_listed.ensures ∙ (λ j. seconds_on (c.entries.ensures j) (made j)) in
-    let passed = c.count_listed.ensures ∙ (λ j. counts_on (c.entries-2.ensures j) (frozen j)) in grind (arith, all_opened a fs)
+    let frozen = c.freeze_listed.ensures ∙ (λ j. seconds_on (c.entries.ensures j) ((c.with-situation.ensures.value
+    ∙ ap (λ l. record (opened a []) { active = values_of l }) c.in_ok-active.ensures) j)) in grind (arith, all_opened a c.args.flights.now)
 
 pub returns-clause-value : goal.returns-clause-value
 returns-clause-value c = opens c
