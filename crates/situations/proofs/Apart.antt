@@ -1,17 +1,17 @@
 -- Callsigns that are apart stay so, and what changes a flight leaves its callsign.
 use Rattle.std.proofs.lemmas.Grind.{common_steps}
-use Rattle.std.proofs.Common.{◌≡◌, ◌≢◌, ℕ, zero, suc, ◌<◌, Bool, true, false, cond, List, [], ◌∷◌, length, map, zip}
-use Rattle.std.proofs.Common.{get_or, Some, refl, sym, ap, ◌∙◌, arith}
-use Rattle.std.specs.Prelude.{◌&&◌, AllPairs, nat_lt}
+use Rattle.std.proofs.Common.{◌≡◌, ◌≢◌, ℕ, zero, suc, ◌<◌, false, cond, List, [], ◌∷◌, length, map, zip}
+use Rattle.std.proofs.Common.{get_or, refl, sym, ap, ◌∙◌, arith}
+use Rattle.std.specs.Prelude.{AllPairs}
 use Rattle.std.proofs.lemmas.List.{length-map, get_or-map}
-use Rattle.landing_rules.specs.Flights.{Active, Callsign, Flight, Span, is_waiting}
+use Rattle.landing_rules.specs.Flights.{Active, Callsign, Flight, Span}
 use Rattle.landing_rules.specs.Events.{named, opening_flight}
 use Rattle.arrivals.specs.declared.aerodrome.Aerodrome.{Aerodrome}
 use Rattle.arrivals.specs.declared.flight.Flight as files
 use Rattle.arrivals.specs.Seen.{flight_of}
 use Rattle.situations.specs.Opened.{opened, opening_of}
 use Rattle.situations.specs.declared.freeze.Freeze.{Freeze}
-use Rattle.situations.specs.Freezes.{count_after, frozen_one}
+use Rattle.situations.specs.Freezes.{frozen_one}
 use Rattle.situations.specs.Seen.{AreApart}
 
 abbrev pub name_of : Active → Callsign

@@ -1,8 +1,7 @@
 -- The test of two callsigns, and what it tells.
 use Rattle.std.proofs.Common.{rules}
-use Rattle.std.proofs.Common.{◌≡◌, ℕ, Bool, true, false, List, refl, sym, ◌∙◌}
+use Rattle.std.proofs.Common.{◌≡◌, ℕ, true, List}
 use Rattle.std.specs.Str.{bytes_eq}
-use Rattle.std.proofs.lemmas.Slice.Eq.{bytes_eq-Decides}
 
 pub bytes_eq-refl : (c : List ℕ) → bytes_eq c c ≡ true
 bytes_eq-refl c = search rules

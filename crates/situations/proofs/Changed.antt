@@ -1,25 +1,23 @@
 -- What a change that was made shows: the situation after its event, and the one before it.
 use Rattle.std.proofs.Common.{rules}
 use Rattle.std.proofs.lemmas.Grind.{common_steps}
-use Rattle.std.proofs.Common.{◌≡◌, ℕ, ◌-◌, true, not, List, length, map, filter, take, slice_get, Option, Some, Vec}
+use Rattle.std.proofs.Common.{◌≡◌, ℕ, ◌-◌, true, not, List, length, map, filter, slice_get, Option, Some, Vec}
 use Rattle.std.proofs.Common.{Global, sym, ap, ◌∙◌, arith}
 use Rattle.std.specs.Prelude.{find}
 use Rattle.std.specs.List.{IsDistinct}
 use Rattle.std.specs.Map.{keys_of, values_of}
 use Rattle.std.specs.Str.{bytes_eq}
 use Rattle.std.proofs.lemmas.List.{length-map}
-use Rattle.std.proofs.lemmas.Option.{slice_get_within}
 use Rattle.indexmap.specs.IndexMap.{move_index}
 use Rattle.landing_rules.specs.Flights.{Active, Callsign, Situation, Span, landings}
 use Rattle.landing_rules.specs.Events.{named, estimated, active_after_clock}
 use Rattle.situations.specs.declared.situation.Fixed.{Fixed}
 use Rattle.situations.specs.declared.change.Change.TheVariants.{Cancel, Estimate, Freeze}
 use Rattle.situations.specs.Changes.{IsClock, IsOf, counts_of}
-use Rattle.situations.specs.Named.{waiting_again}
 use Rattle.situations.specs.Seen.{AreApart, situation_of}
 use Rattle.situations.proofs.Freezing.{waiting_back}
-use Rattle.situations.proofs.Named.{listed, own_count}
-use Rattle.situations.proofs.Keyed.{Entry, Keyed, estimated_back, keyed_apart, last_gone, moved_back, moved_long}
+use Rattle.situations.proofs.Named.{own_count}
+use Rattle.situations.proofs.Keyed.{Entry, Keyed, estimated_back, keyed_apart, moved_back, moved_long}
 use Rattle.situations.proofs.Keyed.{one_gone, values_moved}
 
 pub estimated_is : (s now : Situation) (c : Callsign) (eta : ℕ) (windows : List Span) (eta' : ℕ)

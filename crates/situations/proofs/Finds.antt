@@ -2,16 +2,14 @@
 use Rattle.std.proofs.Common.{rules}
 use Rattle.std.proofs.lemmas.Grind.{common_steps}
 use Rattle.std.proofs.Common.{◌≡◌, ℕ, ◌<◌, ◌≤◌, Bool, true, false, cond, ◌&&◌, List, [], ◌∷◌, Option, Some, None, refl}
-use Rattle.std.proofs.Common.{sym, ap, ◌∙◌, arith}
-use Rattle.std.specs.Prelude.{find, filter_map, option_map, is_some, nat_lt, nat_le}
+use Rattle.std.proofs.Common.{arith}
+use Rattle.std.specs.Prelude.{find, filter_map, option_map, is_some, nat_le}
 use Rattle.std.specs.Prelude.{if◌then◌else◌}
-use Rattle.std.proofs.lemmas.Bool.{ltb-true, ltb-false, le-leb, leb-true}
-use Rattle.std.specs.List.{cons_option}
 use Rattle.cps_base.specs.Limits.{most_closures}
 use Rattle.landing_rules.specs.Flights.{Active, Landing, Callsign, Span, landing}
 use Rattle.landing_rules.specs.Rules.{lists, is_shut}
 use Rattle.landing_rules.specs.Events.{Refusal, CoversFrozen, TooManyClosures, in_landing_order, insert_landing}
-use Rattle.situations.specs.Finds.{first_frozen_listing, earliest_covered, earlier_at}
+use Rattle.situations.specs.Finds.{first_frozen_listing, earliest_covered}
 
 -- the first frozen landing that lists c
 pub listing : (c : Callsign) (xs : List Active)

@@ -2,15 +2,12 @@
 use Rattle.std.proofs.Common.{rules}
 use Rattle.std.proofs.lemmas.Grind.{common_steps}
 use Rattle.std.proofs.Common.{◌≡◌, ℕ, zero, suc, ◌+◌, ◌<◌, Bool, true, false, cond, ◌&&◌, List, [], ◌∷◌, ◌++◌, length}
-use Rattle.std.proofs.Common.{map, set, take, Option, Some, None, get_or, refl, sym, ap, ap₂, ◌∙◌, arith}
+use Rattle.std.proofs.Common.{map, set, take, Option, Some, None, get_or, refl, ap, ap₂, ◌∙◌, arith}
 use Rattle.std.specs.Prelude.{nat_lt, zip}
-use Rattle.std.proofs.lemmas.List.Sums.{length-filter}
-use Rattle.std.specs.Prelude.{is_none, min, count_by, filter}
-use Rattle.std.specs.Ordering.{is_lt}
-use Rattle.landing_rules.specs.Rules.{arrival_cmp, first_come_cmp}
+use Rattle.std.specs.Prelude.{is_none, count_by, filter}
 use Rattle.landing_rules.specs.Flights.{Callsign, Flight, Active, Aerodrome, Landing, landing, landings}
 use Rattle.landing_rules.specs.Events.{after_clock, look_up, passed_after, freezes}
-use Rattle.situations.specs.Freezes.{arrival, arrival_if, freezing, behind, count_after, frozen_one, IsFreezeOf}
+use Rattle.situations.specs.Freezes.{arrival, arrival_if, freezing, count_after, frozen_one, IsFreezeOf}
 use Rattle.situations.specs.Named.{waiting_again}
 use Rattle.situations.specs.declared.freeze.Freeze.{Freeze}
 use Rattle.situations.proofs.Named.{listed, noted}

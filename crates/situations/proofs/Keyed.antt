@@ -2,15 +2,14 @@
 use Rattle.std.proofs.Common.{rules}
 use Rattle.std.proofs.lemmas.Grind.{common_steps}
 use Rattle.std.proofs.Common.{◌≡◌, ◌≢◌, ℕ, zero, suc, ◌+◌, ◌-◌, ◌<◌, Bool, true, false, cond, not, List, [], ◌∷◌, ◌++◌}
-use Rattle.std.proofs.Common.{◌||◌, ◌&&◌, length, map, filter, take, drop, set, get_or, insert, remove, slice_get}
-use Rattle.std.proofs.Common.{Option, Some, None, is_some, refl, sym, ap, ap₂, ◌∙◌, arith}
-use Rattle.std.specs.Prelude.{AllPairs, find, unwrap_or}
+use Rattle.std.proofs.Common.{◌||◌, ◌&&◌, length, map, filter, take, set, get_or, insert, remove, slice_get}
+use Rattle.std.proofs.Common.{Option, Some, None, is_some, refl, sym, ap, ◌∙◌, arith}
+use Rattle.std.specs.Prelude.{AllPairs, find}
 use Rattle.std.specs.List.{IsDistinct, list_any}
 use Rattle.std.specs.Option.{option_map_or}
 use Rattle.std.specs.Map.{keys_of, values_of, lookup, set_value}
 use Rattle.std.specs.Str.{bytes_eq}
-use Rattle.std.proofs.lemmas.Bool.{false≢true}
-use Rattle.std.proofs.lemmas.List.{get_or-map, get_or-take, length-map, length-take, length_push, map-append, take_at}
+use Rattle.std.proofs.lemmas.List.{get_or-map, get_or-take, length-map, length-take, length_push, map-append}
 use Rattle.std.proofs.lemmas.List.{take_more}
 use Rattle.std.proofs.lemmas.List.Edits.{length-remove}
 use Rattle.std.proofs.lemmas.Map.Keys.{apart_from_distinct}
@@ -20,15 +19,15 @@ use Rattle.indexmap.proofs.MoveLemmas.{push_moved}
 use Rattle.indexmap.proofs.RemoveLemmas.{moved_last}
 use Rattle.indexmap.proofs.SetLemmas.{map-move}
 use Rattle.landing_rules.specs.Flights.{Active, Callsign, Span}
-use Rattle.landing_rules.specs.Events.{named, estimated, look_up, newcomer, opening_flight}
+use Rattle.landing_rules.specs.Events.{named, estimated, look_up, newcomer}
 use Rattle.arrivals.specs.declared.aerodrome.Aerodrome.{Aerodrome}
 use Rattle.arrivals.specs.declared.flight.Flight as files
 use Rattle.arrivals.specs.Seen.{flight_of}
 use Rattle.situations.specs.Named.{with_count, with_second}
-use Rattle.situations.specs.Opened.{counts_in, newcomers, opened, opening_of, seconds_in}
+use Rattle.situations.specs.Opened.{counts_in, newcomers, opened, seconds_in}
 use Rattle.situations.specs.Seen.{AreApart}
-use Rattle.situations.proofs.Apart.{at_named, name_of, other, others, tail_apart, with_estimate}
-use Rattle.situations.proofs.Callsigns.{bytes_eq-refl, bytes_eq-sym, bytes_eq-true}
+use Rattle.situations.proofs.Apart.{at_named, name_of, others, tail_apart, with_estimate}
+use Rattle.situations.proofs.Callsigns.{bytes_eq-true}
 
 abbrev pub Entry : Type 0
 Entry = Callsign × Active

@@ -2,7 +2,7 @@
 use Rattle.std.proofs.Common.{rules}
 use Rattle.std.proofs.lemmas.Grind.{common_steps}
 use Rattle.std.proofs.Common.{◌≡◌, ℕ, ◌<◌, Bool, true, false, cond, List, [], ◌∷◌, map, length, get_or, Option, Some}
-use Rattle.std.proofs.Common.{None, refl, sym, ap, ◌∙◌, arith, zero, suc, subst, drop, ◌+◌, ◌-◌, ◌≤◌}
+use Rattle.std.proofs.Common.{None, refl, ap, ◌∙◌, arith, zero, suc, drop, ◌-◌, ◌≤◌}
 use Rattle.std.proofs.Math.Seq.{drop-length}
 use Rattle.std.proofs.lemmas.List.{drop_more}
 use Rattle.std.specs.Prelude.{filter}
@@ -16,7 +16,7 @@ use Rattle.situations.specs.Opened.{counts_in, seconds_in}
 use Rattle.situations.specs.Named.{counted, frozen_so, waiting_again, with_count, with_second}
 use Rattle.situations.specs.Seen.{AreApart}
 use Rattle.situations.proofs.Apart.{tail_apart}
-use Rattle.situations.proofs.Callsigns.{bytes_eq-refl, bytes_eq-sym, bytes_eq-true}
+use Rattle.situations.proofs.Callsigns.{bytes_eq-true}
 use Rattle.situations.proofs.Keyed.{none_behind}
 
 -- each flight as the first entry of its callsign says

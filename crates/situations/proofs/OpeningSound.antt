@@ -1,14 +1,14 @@
 -- What opens is a sound situation.
 use Rattle.std.proofs.Common.{rules}
 use Rattle.std.proofs.lemmas.Grind.{common_steps}
-use Rattle.std.proofs.Common.{◌≡◌, ◌≢◌, ℕ, ◌+◌, ◌<◌, ◌≤◌, inl, inr, Bool, true, false, cond, ◌&&◌, ◌||◌, List, [], ◌∷◌}
-use Rattle.std.proofs.Common.{length, map, filter, Option, Some, None, zero, suc, refl, sym, ap, ap₂, subst, ◌∙◌}
+use Rattle.std.proofs.Common.{◌≡◌, ◌≢◌, ℕ, ◌+◌, ◌<◌, ◌≤◌, inl, inr, Bool, true, false, cond, List, [], ◌∷◌}
+use Rattle.std.proofs.Common.{length, map, filter, Option, Some, None, zero, suc, refl, sym, ap, subst, ◌∙◌}
 use Rattle.std.proofs.Common.{arith, leb}
 use Rattle.std.specs.Prelude.{All, AllPairs, IsTrue, find, option_map, unwrap_or, is_none}
 use Rattle.std.specs.List.{list_any}
 use Rattle.std.specs.Option.{option_or}
 use Rattle.std.specs.Str.{bytes_eq}
-use Rattle.std.proofs.lemmas.Bool.{leb-true, leb-false, le-leb, and_parts, false≢true, true≢false}
+use Rattle.std.proofs.lemmas.Bool.{leb-false, le-leb, true≢false}
 use Rattle.std.proofs.lemmas.List.{length-map}
 use Rattle.cps_base.specs.Limits.{most_waiting}
 use Rattle.landing_rules.specs.shared.Counting.{Member}
@@ -20,7 +20,6 @@ use Rattle.landing_rules.specs.Flights.{horizon, horizon_after}
 use Rattle.landing_rules.specs.Rules.{is_open, lists, ArePairSeparated, IsPairInPrecedence, AreSeparated}
 use Rattle.landing_rules.specs.Rules.{AreInPrecedence}
 use Rattle.landing_rules.specs.Events.{named, look_up, opening_flight, frozen_landings}
-use Rattle.landing_rules.specs.Audit.{are_apart}
 use Rattle.landing_rules.specs.Testing.{is_pair_separated}
 use Rattle.landing_rules.specs.Sound.{IsSound, IsGoodFlight, ListsNone}
 use Rattle.arrivals.specs.declared.aerodrome.Aerodrome.{Aerodrome}
@@ -32,11 +31,10 @@ use Rattle.arrivals.specs.Seen.{flight_of}
 use Rattle.situations.specs.declared.opening_refusal.OpeningFault.{OpeningFault}
 use Rattle.situations.specs.declared.opening_refusal.OpeningFault.TheVariants as fault
 use Rattle.situations.specs.Opened.{opened, opening_of, CanOpen, HasRanges, IsKept}
-use Rattle.situations.specs.Refused.{unless, first_from, unknown_frozen_at, unknown_passed_at, too_many_waiting}
+use Rattle.situations.specs.Refused.{unless, first_from, too_many_waiting}
 use Rattle.situations.specs.Refused.{opening_fault, name_fault, given_landing, given, closed_at, clash_at, clash_from}
-use Rattle.situations.specs.Refused.{is_not_before, lands_late, late_at, rule_fault, AreKept, OpeningLaw, PlainLaw}
+use Rattle.situations.specs.Refused.{is_not_before, late_at, rule_fault, AreKept, OpeningLaw, PlainLaw}
 use Rattle.situations.proofs.Apart.{opened_apart}
-use Rattle.situations.proofs.Callsigns.{bytes_eq-true, bytes_eq-refl}
 
 -- ---- what it means that no fault is found
 

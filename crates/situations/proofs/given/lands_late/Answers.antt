@@ -1,6 +1,4 @@
 use Rattle.std.proofs.Common.{arith}
-use Rattle.std.proofs.Common.{Option, false, ap, ◌∙◌}
-use Rattle.std.specs.Option.{option_map_or}
 use Rattle.landing_rules.specs.Flights.{Active}
 use Rattle.situations.specs.Refused.{is_not_before}
 use Rattle.situations.proofs.Keyed.{any_named}

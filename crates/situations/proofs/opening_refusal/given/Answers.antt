@@ -1,9 +1,6 @@
 use Rattle.std.proofs.lemmas.Grind.{common_steps}
-use Rattle.std.proofs.Common.{◌+◌, ◌∷◌, ◌++◌, length, length-append, drop, sym, ap, ◌∙◌, arith, Vec, Global}
-use Rattle.std.proofs.lemmas.List.{drop_more}
-use Rattle.situations.specs.declared.given.Given.{Given}
-use Rattle.situations.specs.Refused.{given_landing, given}
-use Rattle.situations.proofs.Firsts.{given_more, given_none, few_given}
+use Rattle.std.proofs.Common.{arith}
+use Rattle.situations.proofs.Firsts.{few_given}
 use Rattle.situations.proofs.opening_refusal.given.Goals as goal
 use Rattle.situations.proofs.opening_refusal.given.Goals.{in-Some+in_ok-push, in_default}
 

@@ -1,15 +1,8 @@
 use Rattle.std.proofs.Common.{arith, rules}
 use Rattle.std.proofs.lemmas.Grind.{common_steps}
-use Rattle.std.proofs.Common.{refl, ◌≡◌, [], ◌∷◌, ◌++◌, sym, ap, subst, ◌∙◌}
-use Rattle.std.specs.List.{list_any}
-use Rattle.std.specs.Map.{values_of}
-use Rattle.std.specs.Str.{bytes_eq}
+use Rattle.std.proofs.Common.{◌≡◌, [], ◌∷◌, ◌++◌}
 use Rattle.indexmap.proofs.CallerLemmas.{insert_entry-new}
-use Rattle.landing_rules.specs.Flights.{Active, Situation}
-use Rattle.landing_rules.specs.Events.{named}
-use Rattle.situations.specs.Seen.{situation_of}
-use Rattle.situations.proofs.ChangedFlights.{in_step}
-use Rattle.situations.proofs.Keyed.{Keyed, keyed_pushed, not_there, values_pushed}
+use Rattle.situations.proofs.Keyed.{not_there}
 use Rattle.situations.proofs.situation.Situation.add.Goals as goal
 use Rattle.situations.proofs.situation.Situation.add.Goals.{In_ok-insert}
 

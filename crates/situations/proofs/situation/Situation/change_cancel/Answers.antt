@@ -1,12 +1,10 @@
 use Rattle.std.proofs.Common.{rules}
-use Rattle.std.proofs.Common.{refl, ◌-◌, is_some, sym, ap, ◌∙◌}
+use Rattle.std.proofs.Common.{◌-◌, is_some, ap, ◌∙◌}
 use Rattle.std.specs.Prelude.{find}
-use Rattle.std.proofs.lemmas.Bool.{false≢true}
 use Rattle.indexmap.specs.IndexMap.{move_index}
 use Rattle.landing_rules.specs.Flights.{Situation}
 use Rattle.landing_rules.specs.Events.{named}
 use Rattle.situations.proofs.Changed.{cancelled_is}
-use Rattle.situations.proofs.ChangedFlights.{in_step}
 use Rattle.situations.proofs.Keyed.{found_named, keyed_moved, looked_up, some_from}
 use Rattle.situations.proofs.situation.Situation.change_cancel.Goals as goal
 

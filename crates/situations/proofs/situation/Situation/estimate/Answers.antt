@@ -1,9 +1,5 @@
 use Rattle.std.proofs.Common.{rules}
-use Rattle.std.proofs.Common.{Some, refl, sym, ap, subst, ◌∙◌}
-use Rattle.std.specs.Prelude.{find, option_map}
-use Rattle.landing_rules.specs.Flights.{Active, Situation}
-use Rattle.landing_rules.specs.Events.{named}
-use Rattle.situations.specs.Seen.{AreApart}
+use Rattle.std.proofs.Common.{refl, ap, ◌∙◌}
 use Rattle.situations.proofs.Apart.{with_estimate}
 use Rattle.situations.proofs.ChangedFlights.{IsChanged, none_changed, one_changed}
 use Rattle.situations.proofs.Keyed.{keyed_apart, looked_up}

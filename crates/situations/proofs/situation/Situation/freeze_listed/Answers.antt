@@ -1,8 +1,8 @@
-use Rattle.std.proofs.Common.{arith, rules}
+use Rattle.std.proofs.Common.{rules}
 use Rattle.std.proofs.Common.{Some, refl}
 use Rattle.situations.specs.Named.{frozen_so, with_second}
 use Rattle.situations.specs.Opened.{seconds_in}
-use Rattle.situations.proofs.Named.{as_from_before, as_from_begin, as_from_end, second_first}
+use Rattle.situations.proofs.Named.{as_from_before, as_from_end, second_first}
 use Rattle.situations.proofs.situation.Situation.freeze_listed.Goals as goal
 
 pub loop-i-init : goal.loop-i-init
@@ -15,6 +15,3 @@ loop-i-preserved c =
     (frozen_so e.callsign (Some e.second)) (second_first e.callsign e.second) c.loop-i.i e c.loop-i.self
     c.set_frozen.new.self c.loop-i-test.true c.loop-i.auto.i c.index-entries-i.is (λ es. refl) c.loop-i.invariant
     c.set_frozen.ensures
-
-pub returns : goal.returns
-returns c = grind arith

@@ -1,8 +1,6 @@
 use Rattle.std.proofs.Common.{rules}
-use Rattle.std.proofs.Common.{refl, ◌-◌, sym, ap, ◌∙◌}
+use Rattle.std.proofs.Common.{refl}
 use Rattle.std.proofs.lemmas.List.{length-map}
-use Rattle.indexmap.specs.IndexMap.{move_index, values}
-use Rattle.situations.specs.Seen.{situation_of}
 use Rattle.situations.proofs.ChangedFlights.{in_step}
 use Rattle.situations.proofs.Keyed.{keyed_moved, values_moved}
 use Rattle.situations.proofs.situation.Situation.move_from_last.Goals as goal

@@ -1,11 +1,9 @@
 use Rattle.std.proofs.Common.{arith, rules}
-use Rattle.std.proofs.Common.{[], sym, ap, subst, ◌≡◌, ◌∙◌}
+use Rattle.std.proofs.Common.{[], ap, ◌≡◌, ◌∙◌}
 use Rattle.std.specs.Map.{values_of}
-use Rattle.landing_rules.specs.Sound.{IsSound}
 use Rattle.situations.specs.Opened.{opened}
-use Rattle.situations.specs.Refused.{AreKept}
-use Rattle.situations.proofs.Keyed.{Keyed, all_opened, newcomers_keyed}
-use Rattle.situations.proofs.Named.{counts_on, seconds_on}
+use Rattle.situations.proofs.Keyed.{all_opened, newcomers_keyed}
+use Rattle.situations.proofs.Named.{seconds_on}
 use Rattle.situations.proofs.OpeningSound.{opening_sound}
 use Rattle.situations.proofs.situation.Situation.opening.Goals as goal
 use Rattle.situations.proofs.situation.Situation.opening.Goals.{After-count_listed}

@@ -1,9 +1,9 @@
-use Rattle.std.proofs.Common.{arith, rules}
+use Rattle.std.proofs.Common.{rules}
 use Rattle.std.proofs.Common.{None, refl, ap, ◌∙◌}
 use Rattle.std.proofs.lemmas.Simd.{map-map}
 use Rattle.landing_rules.specs.Flights.{Active}
 use Rattle.situations.specs.Named.{counted, frozen_so, waiting_again}
-use Rattle.situations.proofs.Named.{again_first, as_from_before, as_from_begin, as_from_end}
+use Rattle.situations.proofs.Named.{again_first, as_from_before, as_from_end}
 use Rattle.situations.proofs.situation.Situation.wait_again.Goals as goal
 
 pub loop-i-init : goal.loop-i-init
@@ -17,6 +17,3 @@ loop-i-preserved c =
     c.wait_one.new.self c.loop-i-test.true c.loop-i.auto.i c.index-counts-i.is (λ es. refl) c.loop-i.invariant
     (c.wait_one.ensures ∙ ap (λ l. record c.loop-i.self { active = l })
     (map-map (counted e.0 e.1) (frozen_so e.0 None) c.loop-i.self.active))
-
-pub returns : goal.returns
-returns c = grind arith
