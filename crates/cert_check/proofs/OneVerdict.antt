@@ -1,4 +1,5 @@
 -- The verdict on a certificate is one for a situation.
+use Rattle.std.proofs.Common.{rules}
 use Rattle.std.proofs.Common.{◌≡◌, ℕ, List, [], ◌∷◌, length, Option, Some, None, Bool, not, ◌&&◌, ◌-◌, refl, ap, ap₂}
 use Rattle.std.proofs.Common.{◌∙◌}
 use Rattle.std.specs.Prelude.{◌==◌, nat_lt, option_map, if◌then◌else◌}
@@ -45,7 +46,7 @@ module _ (p : Problem) (xs : List ℕ) (same : must_precede xs ≡ must_precede 
   same_makespan (f ∷ fs) t = refl
 
   same_value : (o : Objective) (x : Pair) → value_by o q x ≡ value_by o p x
-  same_value Makespan x = same_makespan p.flights x.0
+  same_value Makespan x = search rules
   same_value Delay x = refl
 
   same_listed : (c : Claim) (ls : Landings) → flights_reason q c ls ≡ flights_reason p c ls
@@ -73,9 +74,7 @@ module _ (p : Problem) (xs : List ℕ) (same : must_precede xs ≡ must_precede 
   same_claims claim.Infeasible ls = refl
 
   same_final : (c : Claim) (ss : List State) → final_failure q c ss ≡ final_failure p c ss
-  same_final (claim.Optimal v) ss =
-      ap (λ (value : Pair → ℕ). element_from (closure.is_final_below node_of pairs_of (count p) value v) 1 ss)
-      (fun_ext (same_value p.objective))
+  same_final (claim.Optimal v) ss = search rules
   same_final claim.Infeasible ss = refl
 
   -- the rules of an order, by that test
@@ -100,19 +99,15 @@ module _ (p : Problem) (xs : List ℕ) (same : must_precede xs ≡ must_precede 
 
   same_states : (c : Claim) (ss : List State) → state_reason q c ss ≡ state_reason p c ss
   unfolding state_reason
-  same_states c ss = ap₂ (state_by ss) (ap rules_by same) (same_final c ss)
+  same_states c ss = cc (same_final c ss)
 
   same_failure : (c : Cert) → failure q c ≡ failure p c
   unfolding failure
-  same_failure c =
-      ap₂ (λ (a b : Option Reason). option_or a (option_or b (state_reason q c.claim c.states)))
-      (same_listed c.claim c.landings) (same_claims c.claim c.landings)
-      ∙ ap (λ (b : Option Reason). option_or (flights_reason p c.claim c.landings)
-      (option_or (claim_reason p c.claim c.landings) b)) (same_states c.claim c.states)
+  same_failure c = simp (same_claims, same_states)
 
   pub same_verdict : (c : Cert) → verdict_of q c ≡ verdict_of p c
   unfolding verdict_of
-  same_verdict c = ap (verdict_by c.claim) (same_failure c)
+  same_verdict c = cc (same_failure c)
 
 pub one_verdict : OneVerdictLaw
 one_verdict s p q c h k = ap (λ (x : Problem). verdict_of x c) (same_but_pairs s p q h k)

@@ -1,4 +1,5 @@
 -- What the tests of the landings and of the states say where none of them finds anything.
+use Rattle.std.proofs.Common.{rules}
 use Rattle.std.proofs.Common.{◌≡◌, ℕ, zero, suc, ◌+◌, ◌<◌, ◌≤◌, inl, inr, Bool, true, false, not, ◌&&◌, ◌||◌, leb, ltb}
 use Rattle.std.proofs.Common.{length, Option, Some, None, refl, ap, ◌∙◌, arith}
 use Rattle.std.specs.Prelude.{◌==◌, bytes_eq, count_by, option_map, is_some}
@@ -69,14 +70,11 @@ module _ (p : Problem) (ls : Landings) where
 
   not_close : (f g : ℕ) → second p ls f ≤ second p ls g → is_close_behind p ls f g ≡ false
       → second p ls f + (ranked p).apart f g ≤ second p ls g
-  not_close f g le e = ltb-false (second p ls g) (second p ls f + (ranked p).apart f g)
-      (and_false (leb (second p ls f) (second p ls g)) (ltb (second p ls g) (second p ls f + (ranked p).apart f g)) e
-      (le-leb (second p ls f) (second p ls g) le))
+  not_close f g le e = search rules
 
   not_both : (f g : ℕ) → f < g → are_too_close p ls f g ≡ false → (is_close_behind p ls f g ≡ false)
       × (is_close_behind p ls g f ≡ false)
-  not_both f g lt e = or_parts (is_close_behind p ls f g) (is_close_behind p ls g f)
-      (and_false (ltb f g) (is_close_behind p ls f g || is_close_behind p ls g f) e (lt-ltb f g lt))
+  not_both f g lt e = search rules
 
   -- and keep every rule
   pub are_feasible : IsWellFormed p → first_from (is_shut p ls) 1 (count p) ≡ None
@@ -115,8 +113,8 @@ module _ (p : Problem) (ls : Landings) where
 
 module _ (p : Problem) where
   pub passed_low : IsWellFormed p → (r : ℕ) → IsRank (count p) r → (flight p r).passed ≤ p.k
-  passed_low h zero q = absurd (let a = q.0 in omega arith)
-  passed_low h (suc i) q = let b = q.1 in h.passed i no_waiting (omega arith)
+  passed_low h zero q = omega arith
+  passed_low h (suc i) q = omega arith
 
   pub sound_problem : IsWellFormed p → SoundProblem (ranked p)
-  sound_problem h = sound_ranked p h.table (λ q r e. let b = h.between_ranks q r e in (b.0, b.1))
+  sound_problem h = search (rules, sound_ranked)

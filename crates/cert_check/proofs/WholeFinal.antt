@@ -1,4 +1,5 @@
 -- No state of the last stage contradicts what a whole certificate claims: each of its pairs is that of a feasible list.
+use Rattle.std.proofs.Common.{rules}
 use Rattle.std.proofs.Common.{◌≡◌, ℕ, Bool, true, false, ◌&&◌, cond, eqb, ltb, List, length, get_or, Some, None, refl}
 use Rattle.std.proofs.Common.{sym, ap, ◌∙◌, arith}
 use Rattle.std.specs.Prelude.{All}
@@ -34,13 +35,7 @@ module _ (p : Problem) (well : IsWellFormed p) where
   map_listed t f =
       let n = count p in
       let u = list_of n t in
-      let long = list_of_long n t in (
-        u,
-        feasible_list p (passed_low p well) u long
-            (feasible_agree (ranked p) t (of_rank 0 u) (λ r q. sym (list_of_at n t r q)) f),
-        list_value p u long
-            ∙ value_agree p (of_rank 0 u) t (list_of_at n t),
-      )
+      let long = list_of_long n t in search (rules, feasible_list, feasible_agree, list_of_at, list_value, value_agree)
 
   -- so a pair that a node of the last stage attains is that of a feasible list
   pub list_from : (w : PatternNode) (q : Pair) → Attains p w q → w.0 ≡ count p → (u : Schedule)
@@ -49,8 +44,7 @@ module _ (p : Problem) (well : IsWellFormed p) where
       let xs = a.landings in
       let whole : length (ranks xs) ≡ count p = ap (λ (z : PatternNode). z.0) a.at ∙ at in
       let f = landing_trail_feasible (ranked p) (cost_at p) (sound_problem p well) xs a.legal a.landed whole in
-      let u = map_listed (second_in xs) f.0 in
-      (u.0, u.1, u.2 ∙ ap (value_at p) (sym f.1 ∙ a.is))
+      let u = map_listed (second_in xs) f.0 in search rules
 
   -- ---- an optimum is claimed
 
@@ -70,8 +64,7 @@ module _ (p : Problem) (well : IsWellFormed p) where
 
   pub optimal_final : (v : ℕ) (ls : Landings) → IsShownOptimal p ls v → (ss : List State) → All (IsWholeState p) ss
       → final_failure p (claim.Optimal v) ss ≡ None
-  optimal_final v ls shown ss h =
-      none_passes (is_final_below p v) 1 ss (λ k d lt. not_below v ls shown (get_or ss k d) (h k d lt))
+  optimal_final v ls shown ss h = search (rules, none_passes, not_below)
 
   -- ---- nothing is feasible
 
@@ -84,20 +77,11 @@ module _ (p : Problem) (well : IsWellFormed p) where
   some_flight none zero' = let u = map_listed (λ r. 0) no_rank in none u.0 u.1
     where
       out : {A : Type 0} (r : ℕ) → IsRank (count p) r → A
-      out r q = absurd (let a = q.0 in let b = q.1 in omega arith)
+      out r q = search rules
 
       no_rank : Feasible (ranked p) (λ r. 0)
-      no_rank = record {
-        opened = λ r q. out r q;
-        started = λ r q. out r q;
-        separated = λ r q ir iq ne le. out r ir;
-        in_order = λ r q ir iq b. out r ir;
-        not_early = λ r q. out r q;
-        not_late = λ r q. out r q;
-      }
+      no_rank = search rules
 
   pub infeasible_final : NothingIsFeasible p → (ss : List State) → All (IsWholeState p) ss
       → final_failure p claim.Infeasible ss ≡ None
-  infeasible_final none ss h =
-      ap (λ (b : Bool). cond b (Some 0) (element_from (is_final p) 1 ss)) (ne_eqb (count p) 0 (some_flight none))
-      ∙ none_passes (is_final p) 1 ss (λ k d lt. not_final none (get_or ss k d) (h k d lt))
+  infeasible_final none ss h = simp (ne_eqb, some_flight, none_passes, not_final)
