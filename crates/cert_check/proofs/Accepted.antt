@@ -1,16 +1,14 @@
 -- What an accepted certificate means.
 use Rattle.std.proofs.Common.{rules}
-use Rattle.std.proofs.Common.{◌≡◌, ℕ, ◌≤◌, inl, inr, Bool, true, false, cond, List, [], ◌∷◌, length, Option, Some}
-use Rattle.std.proofs.Common.{None, refl, ap, subst, arith}
-use Rattle.std.specs.Prelude.{◌==◌, option_map}
+use Rattle.std.proofs.Common.{◌≡◌, ℕ, ◌≤◌, Bool, true, false, cond, List, [], ◌∷◌, length, Option, Some}
+use Rattle.std.proofs.Common.{None, refl, subst}
+use Rattle.std.specs.Prelude.{◌==◌}
 use Rattle.std.specs.Option.{option_or}
 use Rattle.std.proofs.lemmas.List.{length-map}
-use Rattle.std.proofs.lemmas.Bool.{cases_eq, eqb-true, eq-eqb}
 use Rattle.landing_rules.specs.Flights.{Schedule}
 use Rattle.landing_rules.specs.Problem.{Problem, IsFeasibleList, list_objective}
-use Rattle.cps_theory.specs.RankLists.{of_rank}
-use Rattle.cps_theory.specs.FirstFound.{first_from, first_pair_from, with_number, element_from}
-use Rattle.cps_theory.specs.laws.FirstFound.{or_none, with_number_none}
+use Rattle.cps_theory.specs.FirstFound.{first_from, first_pair_from, element_from}
+use Rattle.cps_theory.specs.laws.FirstFound.{or_none}
 use Rattle.landing_joint.specs.shared.RankedLists.{list_feasible, feasible_list}
 use Rattle.landing_joint.specs.shared.BestLists.{list_value}
 use Rattle.cps_problem.specs.WellFormed.{IsWellFormed}
@@ -19,18 +17,16 @@ use Rattle.certificate.specs.declared.certificate.Claim.TheVariants as claim
 use Rattle.certificate.specs.States.{State}
 use Rattle.certificate.specs.Reading.{Cert}
 use Rattle.cert_check.specs.declared.verdict.Reason.{Reason}
-use Rattle.cert_check.specs.declared.verdict.Reason.TheVariants.{Flights, Closed, Early, Separation, Precedence, Shift}
-use Rattle.cert_check.specs.declared.verdict.Reason.TheVariants.{Value, Shape, Successor, Final}
 use Rattle.cert_check.specs.declared.verdict.Verdict.TheVariants as verdict
-use Rattle.cert_check.specs.Landings.{Landings, count, second_of, seconds, are_not_flights, is_shut, is_early}
+use Rattle.cert_check.specs.Landings.{Landings, count, second_of, seconds, is_shut, is_early}
 use Rattle.cert_check.specs.Landings.{first_too_close, first_out_of_order, is_shifted}
-use Rattle.cert_check.specs.States.{first_missed, missed_from, start_node, successor_failure, shape_failure, is_final}
+use Rattle.cert_check.specs.States.{first_missed, missed_from, start_node, is_final}
 use Rattle.cert_check.specs.States.{final_failure}
-use Rattle.cert_check.specs.Verdict.{with_pair, flights_reason, value_reason, landing_reason, claim_reason}
+use Rattle.cert_check.specs.Verdict.{with_pair, flights_reason, landing_reason, claim_reason}
 use Rattle.cert_check.specs.Verdict.{state_reason, failure, verdict_by, verdict_of}
 use Rattle.cert_check.specs.Meaning.{IsShownOptimal, NothingIsFeasible}
 use Rattle.cert_check.proofs.Bounds.{none_below, none_at_all}
-use Rattle.cert_check.proofs.Sound.{map_none, are_its_landings, are_feasible, passed_low}
+use Rattle.cert_check.proofs.Sound.{are_its_landings, are_feasible, passed_low}
 
 pair_none : {A : Type 0} (f : ℕ → ℕ → A) (o : Option (ℕ × ℕ)) → with_pair f o ≡ None → o ≡ None
 pair_none f None e = refl
@@ -94,9 +90,8 @@ infeasible : (p : Problem) (ls : Landings) (ss : List State) → IsWellFormed p
     → failure p (record { claim = claim.Infeasible; landings = ls; states = ss }) ≡ None → NothingIsFeasible p
 unfolding failure
 infeasible p ls ss h e t f =
-    let a = or_none (flights_reason p claim.Infeasible ls)
-    (option_or (claim_reason p claim.Infeasible ls) (state_reason p claim.Infeasible ss)) e in
-    let b = or_none (claim_reason p claim.Infeasible ls) (state_reason p claim.Infeasible ss) a.1 in
+    let b = or_none (claim_reason p claim.Infeasible ls) (state_reason p claim.Infeasible ss) (or_none (flights_reason p claim.Infeasible ls)
+    (option_or (claim_reason p claim.Infeasible ls) (state_reason p claim.Infeasible ss)) e).1 in
     let s = states_hold p claim.Infeasible ss b.1 in
     go (count p == 0) refl s.final s
   where

@@ -1,6 +1,6 @@
 -- Where the states miss no successor, no feasible schedule is below them, and where none is final, nothing is feasible.
 use Rattle.std.proofs.Common.{rules}
-use Rattle.std.proofs.Common.{◌≡◌, ℕ, zero, suc, ◌≤◌, inl, inr, true, List, [], ◌∷◌, None, ap, subst, le_refl, arith}
+use Rattle.std.proofs.Common.{◌≡◌, ℕ, zero, suc, ◌≤◌, inl, inr, true, List, [], ◌∷◌, None, subst, arith}
 use Rattle.landing_rules.specs.Problem.{Problem}
 use Rattle.cps_theory.specs.Separation.{Landing}
 use Rattle.cps_theory.specs.Retiming.{NeverEarlier}
@@ -41,7 +41,6 @@ module _ (p : Problem) where
   landed_behind [] h = tt
   landed_behind (x ∷ xs) h =
       let a = ready_low (latest_landing xs).0 (latest_landing xs).1 x.0 in
-      let b = h.1 in
       (h.0, omega arith, landed_behind xs h.2)
 
   module _ (well : IsWellFormed p) (ss : List State)

@@ -12,7 +12,6 @@ use denote.Param.Members.{Mut, Called}
 use Rattle.std.proofs.lemmas.Bool.{cases_eq}
 use Rattle.std.proofs.lemmas.Iterator.{first_from_Range, YieldsList-from_range}
 use Rattle.std.specs.Iterator.Runs.{SomeRun, AllItemsGive, IsFirstToGive}
-use Rattle.std.specs.Option.{option_or}
 use Rattle.std.specs.List.{range_with_len}
 use Rattle.cps_base.specs.laws.FindMap.{first_answer, first_answer_from_find_map}
 use Rattle.cps_theory.specs.FirstFound.{first_from, first_pair_from, with_number}

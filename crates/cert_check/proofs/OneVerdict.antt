@@ -4,13 +4,12 @@ use Rattle.std.proofs.Common.{◌≡◌, ℕ, List, [], ◌∷◌, length, Optio
 use Rattle.std.proofs.Common.{◌∙◌}
 use Rattle.std.specs.Prelude.{◌==◌, nat_lt, option_map, if◌then◌else◌}
 use Rattle.std.specs.Option.{option_or}
-use Rattle.std.proofs.Math.Path.{fun_ext}
 use Rattle.precedence.specs.Pairs.{must_precede}
 use Rattle.landing_rules.specs.declared.objective.Objective.{Objective}
 use Rattle.landing_rules.specs.declared.objective.Objective.TheVariants.{Makespan, Delay}
 use Rattle.landing_rules.specs.Flights.{Schedule}
 use Rattle.landing_rules.specs.Problem.{Problem, Waiting, list_cost}
-use Rattle.cps_theory.specs.FirstFound.{element_from, first_from, first_pair_from, with_number}
+use Rattle.cps_theory.specs.FirstFound.{first_from, first_pair_from, with_number}
 use Rattle.cps_theory.specs.Labels.{Pair}
 use Rattle.cps_theory.specs.LegalPrefix.{OrderRules}
 use Rattle.cps_theory.specs.Patterns.{pattern_node}
@@ -28,7 +27,7 @@ use Rattle.cert_check.specs.Landings.{Landings, count, second, seconds, is_shut,
 use Rattle.cert_check.specs.Situations.{OneVerdictLaw}
 use Rattle.cert_check.specs.States.{node_of, pairs_of, ready, shape_failure, final_failure}
 use Rattle.cert_check.specs.Verdict.{with_pair, flights_reason, claim_reason, landing_reason, state_reason, failure}
-use Rattle.cert_check.specs.Verdict.{verdict_by, verdict_of}
+use Rattle.cert_check.specs.Verdict.{verdict_of}
 use Rattle.cps_problem.specs.shared.OneProblem.{same_but_pairs, same_order, with_pairs}
 
 -- a verdict looks at the pairs by whether a rank must land before another, and in no other way

@@ -1,10 +1,9 @@
 -- Of pairs whose seconds rise and whose costs fall, the last that is no later is the cheapest.
 use Rattle.std.proofs.Common.{rules}
 use Rattle.std.proofs.Common.{◌≡◌, ℕ, zero, suc, ◌<◌, ◌≤◌, Bool, true, false, ◌&&◌, ◌||◌, leb, List, [], ◌∷◌, length}
-use Rattle.std.proofs.Common.{get_or, refl, sym, ap, ap₂, ◌∙◌, arith, inl, inr}
+use Rattle.std.proofs.Common.{get_or, refl, ap₂, arith}
 use Rattle.std.specs.List.{list_any}
-use Rattle.std.proofs.lemmas.Bool.{cases_lt, le-leb, lt-leb, ltb-true, and_left, and_parts}
-use Rattle.std.proofs.Math.Bool.{or-false}
+use Rattle.std.proofs.lemmas.Bool.{ltb-true, and_left, and_parts}
 use Rattle.cps_theory.specs.Labels.{Pair, no_worse}
 use Rattle.certificate.specs.States.{rises}
 
@@ -21,9 +20,7 @@ behind p (q ∷ ps) h (suc k) d lt =
     let t = and_parts _ _ (and_parts _ _ h).0 in
     let a = ltb-true p.0 q.0 t.0 in
     let b = ltb-true q.1 p.1 t.1 in
-    let m = behind q ps (and_parts _ _ h).1 k d (omega arith) in
-    let x = m.0 in
-    let y = m.1 in omega arith
+    let m = behind q ps (and_parts _ _ h).1 k d (omega arith) in omega arith
 
 pub seconds_rise : (ps : List Pair) → rises ps ≡ true → (i j : ℕ) (d : Pair) → i ≤ j → j < length ps
     → (get_or ps i d).0 ≤ (get_or ps j d).0
@@ -59,6 +56,5 @@ last_decides (p ∷ ps) h q zero le low high d =
     let here = and_yes (leb p.0 q.0) (leb p.1 q.1) (low zero d (omega arith)) in
     let rest = all_later ps q (λ k e lt. high (suc k) e (omega arith) (omega arith)) in search rules
 last_decides (p ∷ ps) h q (suc m) le low high d =
-    let here = and_yes (leb p.0 q.0) (leb p.1 q.1) (low zero d (omega arith)) in
     let rest = last_decides ps (rest_rises p ps h) q m (omega arith) (λ k e lt. low (suc k) e (omega arith))
     (λ k e le lt. high (suc k) e (omega arith) (omega arith)) d in search (rules, behind)

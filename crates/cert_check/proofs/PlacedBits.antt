@@ -1,21 +1,19 @@
 -- The node of a prefix by the bits of its ranks.
 use Rattle.std.proofs.Common.{rules}
 use Rattle.std.proofs.lemmas.Grind.{common_steps}
-use Rattle.std.proofs.Common.{◌≡◌, ℕ, zero, suc, ◌+◌, ◌-◌, ◌*◌, ◌<◌, ◌≤◌, ◌^◌, ◌⊎◌, ◌↔◌, inl, inr, Bool, true, ◌||◌}
-use Rattle.std.proofs.Common.{leb, eqb, List, ◌∷◌, length, refl, sym, ap, ◌∙◌, arith}
+use Rattle.std.proofs.Common.{◌≡◌, ℕ, zero, suc, ◌+◌, ◌-◌, ◌*◌, ◌<◌, ◌≤◌, ◌^◌, ◌⊎◌, ◌↔◌, Bool}
+use Rattle.std.proofs.Common.{eqb, List, ◌∷◌, length, refl, ap, ◌∙◌, arith}
 use Rattle.std.specs.Prelude.{◌/◌}
 use Rattle.std.specs.Int.{bit_at}
 use Rattle.std.proofs.Math.Nat.{pow-suc, div-div-eq-div-mul}
-use Rattle.std.proofs.lemmas.Bool.{cases_lt, le-leb, eq-eqb, eqb-true, or_left, or_cases, or_right, leb-true}
-use Rattle.std.proofs.lemmas.Bool.Decides.{same_from_decides, Decides-eqb}
 use Rattle.precedence.specs.Pairs.{HasBit}
 use Rattle.cps_theory.specs.RankLists.{In}
 use Rattle.cps_theory.specs.LandingTrail.{last_rank}
 use Rattle.cps_theory.specs.LegalPrefix.{OrderRules}
-use Rattle.cps_theory.specs.Patterns.{is_member, pattern_digit, pattern_node, tests_from}
+use Rattle.cps_theory.specs.Patterns.{is_member, pattern_node, tests_from}
 use Rattle.cps_theory.specs.laws.PatternNetwork.{tests_agree, member_in, in_member}
 use Rattle.certificate.specs.Patterns.{bits}
-use Rattle.cert_check.specs.PlacedBits.{is_marked, digits_of}
+use Rattle.cert_check.specs.PlacedBits.{digits_of}
 
 member_bit : (rs : List ℕ) (placed r : ℕ) → HasBit placed r ↔ In r rs → is_member r rs ≡ eqb (bit_at placed r) 1
 member_bit rs placed r h = search (rules, member_in, in_member)

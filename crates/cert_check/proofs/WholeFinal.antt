@@ -1,23 +1,21 @@
 -- No state of the last stage contradicts what a whole certificate claims: each of its pairs is that of a feasible list.
 use Rattle.std.proofs.Common.{rules}
-use Rattle.std.proofs.Common.{◌≡◌, ℕ, Bool, true, false, ◌&&◌, cond, eqb, ltb, List, length, get_or, Some, None, refl}
-use Rattle.std.proofs.Common.{sym, ap, ◌∙◌, arith}
+use Rattle.std.proofs.Common.{◌≡◌, ℕ, Bool, true, false, ◌&&◌, eqb, ltb, List, None, refl}
+use Rattle.std.proofs.Common.{ap, ◌∙◌, arith}
 use Rattle.std.specs.Prelude.{All}
 use Rattle.std.specs.List.{list_any}
 use Rattle.std.proofs.lemmas.Bool.{eqb-true, ne_eqb, le-ltb}
 use Rattle.landing_rules.specs.Flights.{Schedule}
 use Rattle.landing_rules.specs.Problem.{Problem, IsFeasibleList, list_objective}
-use Rattle.cps_theory.specs.RankLists.{IsRank, of_rank}
-use Rattle.cps_theory.specs.LandingTrail.{ranks}
+use Rattle.cps_theory.specs.RankLists.{IsRank}
 use Rattle.cps_theory.specs.Feasible.{Feasible, second_and_cost, second_in}
 use Rattle.cps_theory.specs.Labels.{Pair}
-use Rattle.cps_theory.specs.FirstFound.{element_from}
 use Rattle.cps_theory.specs.Patterns.{PatternNode}
 use Rattle.cps_theory.specs.laws.LeastObjective.{landing_trail_feasible}
 use Rattle.landing_joint.specs.RankedProblem.{ranked, cost_at, value_at}
 use Rattle.landing_joint.specs.shared.RankedLists.{feasible_agree, feasible_list}
 use Rattle.landing_joint.specs.shared.BestLists.{list_value}
-use Rattle.landing_joint.specs.shared.FirstBestLists.{list_of, list_of_at, list_of_long, value_agree}
+use Rattle.landing_joint.specs.shared.FirstBestLists.{list_of_at, list_of_long, value_agree}
 use Rattle.cps_problem.specs.WellFormed.{IsWellFormed}
 use Rattle.certificate.specs.States.{State}
 use Rattle.certificate.specs.declared.certificate.Claim.TheVariants as claim
@@ -25,7 +23,7 @@ use Rattle.cert_check.specs.Landings.{Landings, count}
 use Rattle.cert_check.specs.Meaning.{IsShownOptimal, NothingIsFeasible}
 use Rattle.cert_check.specs.States.{node_of, is_final, is_final_below, final_failure}
 use Rattle.cert_check.specs.Whole.{Attains, IsWholeState}
-use Rattle.cert_check.proofs.Sound.{sound_problem, passed_low}
+use Rattle.cert_check.proofs.Sound.{sound_problem}
 use Rattle.cert_check.proofs.WholeStates.{any_not, none_passes}
 
 module _ (p : Problem) (well : IsWellFormed p) where
@@ -33,17 +31,14 @@ module _ (p : Problem) (well : IsWellFormed p) where
   map_listed : (t : ℕ → ℕ) → Feasible (ranked p) t → (u : Schedule) × IsFeasibleList p u
       × (list_objective p u ≡ value_at p (second_and_cost (cost_at p) (count p) t))
   map_listed t f =
-      let n = count p in
-      let u = list_of n t in
-      let long = list_of_long n t in search (rules, feasible_list, feasible_agree, list_of_at, list_value, value_agree)
+      let long = list_of_long (count p) t in search (rules, feasible_list, feasible_agree, list_of_at, list_value, value_agree)
 
   -- so a pair that a node of the last stage attains is that of a feasible list
   pub list_from : (w : PatternNode) (q : Pair) → Attains p w q → w.0 ≡ count p → (u : Schedule)
       × IsFeasibleList p u × (list_objective p u ≡ value_at p q)
   list_from w q a at =
       let xs = a.landings in
-      let whole : length (ranks xs) ≡ count p = ap (λ (z : PatternNode). z.0) a.at ∙ at in
-      let f = landing_trail_feasible (ranked p) (cost_at p) (sound_problem p well) xs a.legal a.landed whole in
+      let f = landing_trail_feasible (ranked p) (cost_at p) (sound_problem p well) xs a.legal a.landed (ap (λ (z : PatternNode). z.0) a.at ∙ at) in
       let u = map_listed (second_in xs) f.0 in search rules
 
   -- ---- an optimum is claimed

@@ -1,29 +1,28 @@
 -- States that leave nothing out keep the form of a certificate's, and are few.
 use Rattle.std.proofs.Common.{rules}
 use Rattle.std.proofs.lemmas.Grind.{common_steps}
-use Rattle.std.proofs.Common.{◌≡◌, ℕ, suc, ◌+◌, ◌*◌, ◌<◌, ◌≤◌, ◌^◌, ◌⊎◌, inl, inr, Bool, true, false, List, [], ◌∷◌}
-use Rattle.std.proofs.Common.{length, refl, sym, ap, subst, ◌∙◌, arith}
+use Rattle.std.proofs.Common.{◌≡◌, ℕ, suc, ◌+◌, ◌*◌, ◌<◌, ◌≤◌, ◌⊎◌, inl, inr, Bool, true, false, List, [], ◌∷◌}
+use Rattle.std.proofs.Common.{length, refl, arith}
 use Rattle.std.specs.Prelude.{All}
 use Rattle.std.specs.List.{list_all}
-use Rattle.std.specs.Ordering.{nat_cmp, bool_cmp, ordering_then}
+use Rattle.std.specs.Ordering.{bool_cmp, ordering_then}
 use Rattle.std.specs.Cmp.Lexicographic.{slice_cmp}
 use Rattle.std.specs.declared.cmp.Ordering.{Ordering}
 use Rattle.std.specs.declared.cmp.Ordering.TheVariants.{Less, Equal, Greater}
 use Rattle.std.proofs.Math.Nat.{pow-le-pow_right}
-use Rattle.std.proofs.lemmas.Cmp.{ranked}
 use Rattle.cps_base.specs.Limits.{most_waiting}
 use Rattle.landing_rules.specs.Problem.{Problem}
 use Rattle.cps_theory.specs.Separation.{Landing}
 use Rattle.cps_theory.specs.LandingTrail.{ranks}
 use Rattle.cps_theory.specs.Labels.{InPairs, Pair}
 use Rattle.cps_theory.specs.LegalPrefix.{Legal}
-use Rattle.cps_theory.specs.Patterns.{IsShaped, PatternNode, pattern_node}
+use Rattle.cps_theory.specs.Patterns.{IsShaped, pattern_node}
 use Rattle.cps_theory.specs.CertificateClosure.{node_cmp}
 use Rattle.cps_theory.specs.laws.PatternShape.{legal_is_shaped}
 use Rattle.cps_problem.specs.WellFormed.{IsWellFormed}
-use Rattle.certificate.specs.Patterns.{is_pattern_length, number_of}
+use Rattle.certificate.specs.Patterns.{number_of}
 use Rattle.certificate.specs.States.{State, IsState, AreStates, is_pair}
-use Rattle.certificate.specs.shared.PartsKept.{even_length, number_below}
+use Rattle.certificate.specs.shared.PartsKept.{number_below}
 use Rattle.cert_check.specs.Landings.{count}
 use Rattle.cert_check.specs.States.{node_of, rules_of}
 use Rattle.cert_check.specs.Whole.{IsWholeState, AreWholeStates}
@@ -44,9 +43,7 @@ module _ (p : Problem) (well : IsWellFormed p) where
       → pattern_node (rules_of p) (ranks xs) ≡ node_of s → IsShaped p.k (count p) (node_of s) × (1 ≤ s.last)
   shape_of s [] begun legal at = search rules
   shape_of s (x ∷ xs) begun legal at =
-      let h = legal_is_shaped (rules_of p) (λ r. (sound_problem p well).low r) x.0 (ranks xs) legal in
-      let last = ap (λ (z : PatternNode). z.2) at in
-      let one = legal.0.fits.from_one in search rules
+      let h = legal_is_shaped (rules_of p) (λ r. (sound_problem p well).low r) x.0 (ranks xs) legal in search rules
 
   pub shape : (s : State) → IsWholeState p s → IsShaped p.k (count p) (node_of s) × (1 ≤ s.last)
   shape s h = let a = h.landable.1 in shape_of s a.landings h.begun a.legal a.at
@@ -54,11 +51,7 @@ module _ (p : Problem) (well : IsWellFormed p) where
   in_form : (s : State) → IsWholeState p s → list_all is_pair s.pairs ≡ true → IsState s
   in_form s h pairs =
       let k = shape s h in
-      let w = k.0 in
-      let few = well.few_flights in
-      let o = h.covers h.landable.0 h.landable.1 in
-      let stage = w.stage in
-      let latest = w.latest in grind (arith, common_steps)
+      let o = h.covers h.landable.0 h.landable.1 in grind (arith, common_steps)
 
   states_in_form : (ss : List State) → All (IsWholeState p) ss → All (λ s. list_all is_pair s.pairs ≡ true) ss
       → AreStates ss
@@ -128,7 +121,6 @@ module _ (width : ℕ) (narrow : width ≤ 6) where
       let low = code_low s here.0 in
       let more = few_from ss (suc (code s)) up.1
       (λ t i. ((h t (inr i)).0, code_rises s t here.0 (h t (inr i)).0 (up.0 t i))) (omega arith) in
-      let at = here.1 in
       omega arith
 
 module _ (p : Problem) (well : IsWellFormed p) where
@@ -138,6 +130,5 @@ module _ (p : Problem) (well : IsWellFormed p) where
   pub whole_in_form : (ss : List State) → AreWholeStates p ss → All (λ s. list_all is_pair s.pairs ≡ true) ss
       → AreStates ss × (length ss < 4294967295)
   whole_in_form ss h pairs =
-      let narrow = well.few_places in
       let few = few_from (2 * p.k) (omega arith) ss 0 (ascending ss h.ascending)
       (λ s i. (coded s (all_at (IsWholeState p) ss h.each s i), omega arith)) (omega arith) in search (rules, states_in_form)

@@ -1,10 +1,10 @@
 -- The landings of a best list break none of the conditions.
 use Rattle.std.proofs.Common.{rules}
-use Rattle.std.proofs.Common.{◌≡◌, ℕ, zero, suc, ◌+◌, ◌<◌, ◌≤◌, Bool, true, false, not, ◌&&◌, ◌||◌, leb, ltb, cond}
-use Rattle.std.proofs.Common.{length, Option, Some, None, refl, ap, ◌∙◌, arith}
-use Rattle.std.specs.Prelude.{◌==◌, bytes_eq, count_by, is_some}
+use Rattle.std.proofs.Common.{◌≡◌, ℕ, zero, suc, ◌+◌, ◌<◌, ◌≤◌, Bool, true, false, not, ◌&&◌, leb, ltb}
+use Rattle.std.proofs.Common.{Option, None, refl, ap, ◌∙◌, arith}
+use Rattle.std.specs.Prelude.{bytes_eq, count_by}
 use Rattle.std.specs.Option.{option_or}
-use Rattle.std.proofs.lemmas.Bool.{or_from, le-ltb, lt-ltb, leb-true, ltb-true, eq-eqb}
+use Rattle.std.proofs.lemmas.Bool.{le-ltb, lt-ltb, leb-true, eq-eqb}
 use Rattle.landing_rules.specs.Problem.{Problem, IsFeasibleList, list_objective, place_in}
 use Rattle.cps_theory.specs.RankLists.{IsRank, of_rank}
 use Rattle.cps_theory.specs.Feasible.{Feasible}
@@ -13,9 +13,8 @@ use Rattle.cps_theory.specs.laws.FirstFound.{none_from}
 use Rattle.landing_joint.specs.RankedProblem.{ranked, start_at, apart_at}
 use Rattle.landing_joint.specs.shared.RankedLists.{list_feasible, each_at}
 use Rattle.certificate.specs.declared.certificate.Claim.TheVariants as claim
-use Rattle.cert_check.specs.declared.verdict.Reason.TheVariants.{Flights}
 use Rattle.cert_check.specs.Landings.{Landings, count, flight, seconds, second, is_not_once, are_not_flights, is_shut}
-use Rattle.cert_check.specs.Landings.{is_early, is_close_behind, are_too_close, are_out_of_order, place, is_shifted}
+use Rattle.cert_check.specs.Landings.{is_early, is_close_behind, are_too_close, are_out_of_order, is_shifted}
 use Rattle.cert_check.specs.Meaning.{AreItsLandings, IsShownOptimal}
 use Rattle.cert_check.specs.Verdict.{flights_reason, landing_reason}
 

@@ -1,20 +1,18 @@
 -- What the pairs of a state come from: landings of the makespan cost nothing, and the last of them is at an open
 -- second.
 use Rattle.std.proofs.Common.{rules}
-use Rattle.std.proofs.Common.{◌≡◌, ℕ, ◌<◌, ◌≤◌, inl, inr, List, [], ◌∷◌, length, true, refl, sym, ap, subst, ◌∙◌, arith}
+use Rattle.std.proofs.Common.{◌≡◌, ◌<◌, ◌≤◌, inl, inr, List, [], ◌∷◌, length, true, refl, sym, ap, ◌∙◌, arith}
 use Rattle.std.specs.Prelude.{◌&&◌, nat_lt}
 use Rattle.std.proofs.lemmas.Bool.{and_parts}
 use Rattle.std.proofs.lemmas.Bool.Decides.{nat_tests}
-use Rattle.landing_rules.specs.declared.objective.Objective.{Objective}
 use Rattle.landing_rules.specs.declared.objective.Objective.TheVariants.{Makespan}
 use Rattle.landing_rules.specs.Problem.{Problem}
 use Rattle.cps_theory.specs.Separation.{Landing}
 use Rattle.cps_theory.specs.LandingTrail.{Landed, cost_of, pair_of, ranks}
 use Rattle.cps_theory.specs.Labels.{InPairs, Pair}
 use Rattle.cps_theory.specs.Feasible.{next_from}
-use Rattle.cps_theory.specs.Patterns.{PatternNode, pattern_node}
-use Rattle.landing_joint.specs.RankedProblem.{cost_at, cost_by, no_waiting, ranked}
-use Rattle.cps_theory.specs.RankLists.{of_rank}
+use Rattle.cps_theory.specs.Patterns.{pattern_node}
+use Rattle.landing_joint.specs.RankedProblem.{cost_at, ranked}
 use Rattle.certificate.specs.States.{State, rises}
 use Rattle.cert_check.specs.States.{node_of, rules_of}
 use Rattle.cert_check.specs.Whole.{Attains}
@@ -34,12 +32,8 @@ makespan_pairs p s e h = go s.pairs h.rising (λ q i. costless q ((h.undominated
     go [] up none = omega arith
     go (a ∷ []) up none = omega arith
     go (a ∷ b ∷ rest) up none =
-        let both = and_parts (nat_lt a.0 b.0 && nat_lt b.1 a.1) (rises (b ∷ rest)) up in
-        let falls = (and_parts (nat_lt a.0 b.0) (nat_lt b.1 a.1) both.0).1 in
-        let lt : b.1 < a.1 = grind (arith, nat_tests, falls) in
-        let x = none a (inl refl) in
-        let y = none b (inr (inl refl)) in
-        absurd (omega (arith, lt, x, y))
+        let lt : b.1 < a.1 = grind (arith, nat_tests, ((and_parts (nat_lt a.0 b.0) (nat_lt b.1 a.1) (and_parts (nat_lt a.0 b.0 && nat_lt b.1 a.1) (rises (b ∷ rest)) up).0).1)) in
+        absurd (omega (arith, lt, (none a (inl refl)), (none b (inr (inl refl)))))
 
 module _ (p : Problem) (s : State) (q : Pair) where
   -- the last landing of a prefix of this node

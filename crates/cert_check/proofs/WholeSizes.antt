@@ -3,15 +3,12 @@
 use Rattle.std.proofs.Common.{rules}
 use Rattle.std.proofs.lemmas.Grind.{common_steps}
 use Rattle.std.proofs.Common.{◌≡◌, ℕ, zero, suc, ◌+◌, ◌-◌, ◌*◌, ◌/◌, ◌%◌, ◌<◌, ◌≤◌, ◌^◌, inl, inr, List, [], ◌∷◌}
-use Rattle.std.proofs.Common.{length, get_or, true, false, Bool, cond, ◌&&◌, ◌||◌, leb, eqb, refl, sym, ap, subst, ◌∙◌}
+use Rattle.std.proofs.Common.{length, get_or, true, false, Bool, cond, ◌&&◌, ◌||◌, leb, eqb, refl, sym, ap, ◌∙◌}
 use Rattle.std.proofs.Common.{arith}
 use Rattle.std.specs.Prelude.{count_by}
-use Rattle.std.specs.Ordering.{nat_cmp, bool_cmp}
-use Rattle.std.specs.Cmp.Lexicographic.{slice_cmp}
-use Rattle.std.specs.declared.cmp.Ordering.TheVariants.{Less, Equal}
+use Rattle.std.specs.declared.cmp.Ordering.TheVariants.{Less}
 use Rattle.std.proofs.Math.Nat.{mul-le-mul_right}
-use Rattle.std.proofs.lemmas.Bool.{and_from, eq-eqb, le-leb, lt-leb, or_left, or_right}
-use Rattle.std.proofs.lemmas.Cmp.{ranked}
+use Rattle.std.proofs.lemmas.Bool.{eq-eqb}
 use Rattle.std.proofs.lemmas.List.Sums.{sum_by-cons}
 use Rattle.cps_theory.specs.Patterns.{IsShaped}
 use Rattle.cps_theory.specs.CertificateClosure.{node_cmp}
@@ -26,7 +23,7 @@ use Rattle.landing_rules.specs.shared.Counting.{Member}
 use Rattle.landing_rules.specs.shared.Members.{all_at}
 use Rattle.landing_rules.specs.shared.OneList.{AscendBy}
 use Rattle.cert_check.proofs.WholeUnique.{ascending}
-use Rattle.cert_check.proofs.WholeForm.{number_rises, number_same, shape, then_less}
+use Rattle.cert_check.proofs.WholeForm.{number_rises, number_same, shape}
 
 -- ---- digits by their number
 
@@ -137,11 +134,9 @@ module _ (k n : ℕ) (narrow : k ≤ 3) where
   few_from [] least up h le = omega (arith, le)
   few_from (s ∷ ss) least up h le =
       let here = h s (inl refl) in
-      let top = within s here.0 in
-      let at = here.1 in
       let more = few_from ss (suc (before s)) up.1
       (λ t i. ((h t (inr i)).0, (let x = rises s t here.0 (h t (inr i)).0 (up.0 t i) in omega (arith, x))))
-      (omega (arith, top)) in omega arith
+      (omega (arith, (within s here.0))) in omega arith
 
 pub few_states : WholeStatesAreFewLaw
 few_states p ss well h =
@@ -151,7 +146,9 @@ few_states p ss well h =
     let begun : (s : State) → Member s ss → most_nodes p.k ≤ before p.k n well.few_places s = λ s i.
     (let one = (all_at (IsWholeState p) ss h.each s i).begun in let m =
     mul-le-mul_right (most_nodes p.k) one in omega (arith, m)) in
-    let all = few_from p.k n well.few_places ss (most_nodes p.k) (ascending ss h.ascending)
-    (λ s i. (shaped s i, begun s i)) (let m = mul-le-mul_right (most_nodes p.k) (let x : 1 ≤ n + 1 =
-    omega arith in x) in omega (arith, m)) in
-    omega (arith, all)
+    omega (
+      arith,
+      (few_from p.k n well.few_places ss (most_nodes p.k) (ascending ss h.ascending)
+          (λ s i. (shaped s i, begun s i)) (let m = mul-le-mul_right (most_nodes p.k) (let x : 1 ≤ n + 1 =
+          omega arith in x) in omega (arith, m))),
+    )

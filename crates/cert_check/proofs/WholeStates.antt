@@ -1,13 +1,12 @@
 -- The states of a whole certificate miss no successor, and have their shape.
 use Rattle.std.proofs.Common.{rules}
 use Rattle.std.proofs.Common.{◌≡◌, ℕ, zero, suc, ◌+◌, ◌-◌, ◌*◌, ◌<◌, ◌≤◌, inl, inr, Bool, true, false, not, ◌&&◌, leb}
-use Rattle.std.proofs.Common.{ltb, List, [], ◌∷◌, length, get_or, Option, Some, None, refl, sym, ap, ap₂, subst, ◌∙◌}
+use Rattle.std.proofs.Common.{ltb, List, [], ◌∷◌, length, get_or, Option, Some, None, refl, sym, ap, subst, ◌∙◌}
 use Rattle.std.proofs.Common.{arith}
-use Rattle.std.specs.Prelude.{All, count_by, option_map, is_none}
+use Rattle.std.specs.Prelude.{All, option_map}
 use Rattle.std.specs.List.{list_any}
-use Rattle.std.specs.Ordering.{is_eq}
 use Rattle.std.specs.Option.{option_or}
-use Rattle.std.proofs.lemmas.Bool.{and_from, or_from, or_left, or_right, le-leb, leb-true, ltb-true, eq-eqb}
+use Rattle.std.proofs.lemmas.Bool.{or_from, or_left, or_right}
 use Rattle.std.proofs.lemmas.Cmp.{tied_itself}
 use Rattle.wake_table.specs.declared.category.Category.{Category}
 use Rattle.wake_table.specs.Table.{separation}
@@ -16,14 +15,13 @@ use Rattle.cps_theory.specs.RankLists.{IsRank}
 use Rattle.cps_theory.specs.Separation.{Landing}
 use Rattle.cps_theory.specs.LandingTrail.{Landed, latest_landing, ranks}
 use Rattle.cps_theory.specs.Feasible.{next_from}
-use Rattle.cps_theory.specs.Labels.{InPairs, NoWorse, Pair, next_pair, no_worse}
+use Rattle.cps_theory.specs.Labels.{InPairs, NoWorse, Pair, no_worse}
 use Rattle.cps_theory.specs.LegalPrefix.{Legal}
 use Rattle.cps_theory.specs.Patterns.{IsShaped, PatternNode, PatternPermits, pattern_newest, pattern_node, pattern_push}
 use Rattle.cps_theory.specs.FirstFound.{with_number, element_from}
 use Rattle.cps_theory.specs.CertificateClosure as closure
 use Rattle.cps_theory.specs.CertificateClosure.{is_placed_by_pattern, permits_next, node_cmp}
 use Rattle.cps_theory.specs.laws.FirstFound.{none_from}
-use Rattle.cps_theory.specs.laws.LabelDominance.{last_ranks}
 use Rattle.cps_theory.specs.laws.LeastObjective.{next_later}
 use Rattle.cps_theory.specs.laws.NetworkLabels.{attained_next}
 use Rattle.cps_theory.specs.laws.NodeOrder.{node_total}
@@ -36,7 +34,7 @@ use Rattle.cps_problem.specs.WellFormed.{IsWellFormed}
 use Rattle.certificate.specs.States.{State}
 use Rattle.cert_check.specs.Landings.{count, flight}
 use Rattle.cert_check.specs.States.{node_of, pairs_of, rules_of, ready, successor, covers, is_missed, misses}
-use Rattle.cert_check.specs.States.{first_missed, missed_from, digit, is_one, is_wrong_digit, is_shaped, is_misshapen}
+use Rattle.cert_check.specs.States.{first_missed, missed_from, digit, is_wrong_digit, is_shaped, is_misshapen}
 use Rattle.cert_check.specs.States.{shape_failure}
 use Rattle.cert_check.specs.Whole.{Attains, IsWholeState, AreWholeStates}
 use Rattle.cert_check.proofs.PermitTests.{permits_from}
@@ -84,7 +82,6 @@ module _ (k n : ℕ) (w : PatternNode) (h : IsShaped k n w) where
       go : (b : Bool) → leb (w.0 + j) k ≡ b → b && not (digit w.1 j) ≡ false
       go false e = refl
       go true e =
-          let le = leb-true (w.0 + j) k e in
           let at : w.0 + j - suc w.0 ≡ j - 1 = omega arith in search rules
 
   high_digit : (j : ℕ) → 1 ≤ j → j ≤ 2 * k → ltb (n + k) (w.0 + j) && digit w.1 j ≡ false
@@ -93,7 +90,6 @@ module _ (k n : ℕ) (w : PatternNode) (h : IsShaped k n w) where
       go : (b : Bool) → ltb (n + k) (w.0 + j) ≡ b → b && digit w.1 j ≡ false
       go false e = refl
       go true e =
-          let lt = ltb-true (n + k) (w.0 + j) e in
           let at : w.0 + j - suc w.0 ≡ j - 1 = omega arith in search rules
 
   no_wrong_digit : (j : ℕ) → 1 ≤ j → j < 1 + 2 * k → is_wrong_digit k n w j ≡ false
@@ -148,12 +144,10 @@ module _ (p : Problem) (well : IsWellFormed p) where
   next_attained : (w : PatternNode) (b q : Pair) (r : ℕ) → Attains p w b → PatternPermits (rules_of p) w r
       → successor p w.2 b r ≡ Some q → Attains p (pattern_push (rules_of p) w r) q
   next_attained w b q r a m e =
-      let same : successor p w.2 b r ≡ next_pair (first_at p) (next_from (ranked p)) (cost_at p) w.2 b r =
-      ap (λ (t : ℕ). option_map (λ (u : ℕ). (u, b.1 + cost_at p r u)) (first_at p r t)) (ready_is w b r a) in
       attained_next PatternNode opens (first_at p) (next_from (ranked p)) (cost_at p) (Legal (rules_of p))
       (pattern_node (rules_of p)) (PatternPermits (rules_of p)) (pattern_push (rules_of p)) pattern_newest
       (is_first_open p) (next_later (ranked p)) (costs_rise p) (pattern_network (rules_of p) ones) w b r q a m
-      (sym same ∙ e)
+      (sym (ap (λ (t : ℕ). option_map (λ (u : ℕ). (u, b.1 + cost_at p r u)) (first_at p r t)) (ready_is w b r a)) ∙ e)
 
   -- ---- the states
 
@@ -177,8 +171,7 @@ module _ (p : Problem) (well : IsWellFormed p) where
     covered w q one a =
         let s = whole.every w q one a in
         let i = s.1 in
-        let h = subst (IsWholeState p) i.2 (whole.each i.0 s.0 i.1) in
-        let o = h.covers q (subst (λ (z : PatternNode). Attains p z q) (sym s.2) a) in search (rules, covers_by)
+        let o = (subst (IsWholeState p) i.2 (whole.each i.0 s.0 i.1)).covers q (subst (λ (z : PatternNode). Attains p z q) (sym s.2) a) in search (rules, covers_by)
 
     not_missed : (w : PatternNode) (b : Pair) (r : ℕ) → Attains p w b → PatternPermits (rules_of p) w r
         → is_missed p ss w r b ≡ false

@@ -1,15 +1,12 @@
 -- A whole certificate is accepted.
 use Rattle.std.proofs.Common.{rules}
-use Rattle.std.proofs.Common.{◌≡◌, ℕ, Option, None, List, refl, ap, ap₂, ◌∙◌}
-use Rattle.std.specs.Option.{option_or}
+use Rattle.std.proofs.Common.{◌≡◌, None, List, refl}
 use Rattle.landing_rules.specs.Problem.{Problem}
-use Rattle.cps_theory.specs.FirstFound.{with_number}
 use Rattle.cps_problem.specs.WellFormed.{IsWellFormed}
 use Rattle.certificate.specs.declared.certificate.Claim.{Claim}
 use Rattle.certificate.specs.declared.certificate.Claim.TheVariants as claim
 use Rattle.certificate.specs.States.{State}
 use Rattle.certificate.specs.Reading.{Cert}
-use Rattle.cert_check.specs.declared.verdict.Reason.{Reason}
 use Rattle.cert_check.specs.Landings.{Landings}
 use Rattle.cert_check.specs.States.{successor_failure, final_failure}
 use Rattle.cert_check.specs.Verdict.{flights_reason, claim_reason, state_reason, failure, verdict_by, verdict_of}

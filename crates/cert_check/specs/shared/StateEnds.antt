@@ -1,8 +1,7 @@
 -- One state more, behind others.
 use Rattle.std.proofs.Common.{arith, rules}
 use Rattle.std.proofs.lemmas.Grind.{common_steps}
-use Rattle.std.proofs.Common.{◌≡◌, List, [], ◌∷◌, ◌++◌, inl, inr, refl, ap}
-use Rattle.std.specs.Ordering.{is_lt}
+use Rattle.std.proofs.Common.{◌≡◌, List, [], ◌∷◌, ◌++◌, inr}
 use Rattle.std.specs.declared.cmp.Ordering.TheVariants.{Less}
 use Rattle.cps_theory.specs.Patterns.{PatternNode}
 use Rattle.cps_theory.specs.CertificateClosure.{node_cmp}
@@ -10,7 +9,7 @@ use Rattle.certificate.specs.States.{State, AreAscending}
 use Rattle.cert_check.specs.States.{node_of}
 use Rattle.cert_check.specs.Whole.{HasNode}
 use Rattle.landing_rules.specs.shared.Counting.{Member}
-use Rattle.landing_rules.specs.shared.Members.{append_in, contains_member, member_contains, pushed_in}
+use Rattle.landing_rules.specs.shared.Members.{member_contains, pushed_in}
 
 -- the state's node comes before this one
 abbrev pub IsBefore : State → PatternNode → Type 0
