@@ -1,4 +1,5 @@
 -- The entries of a stage keep the pairs of its nodes.
+use Rattle.std.proofs.Common.{rules}
 use Rattle.std.proofs.Common.{◌≡◌, ℕ, ◌≤◌, List, [], length, sym, ap, ap₂, subst, ◌∙◌, arith}
 use Rattle.std.specs.Prelude.{ℤ, pos, ◌↔◌}
 use Rattle.std.proofs.lemmas.List.{get_or_default}
@@ -46,22 +47,14 @@ placed_tell p bits net tells stage placed xs told rs legal at =
     let whole = bits (ranked p).rules rs placed
     (λ r one. (λ b. (here r one).0 ((told r).0 b).1, λ i. (told r).1 (one, (here r one).1 i))) in
     let long : length rs ≡ stage = ap (λ (n : Node). n.0) at in
-    let last : last_rank rs ≡ latest (stage, xs) = sym (net.newest_is rs legal) ∙ ap latest at in
-    whole ∙ ap₂ (λ (n m : ℕ). (n, digits_of p.k n placed, m)) long last
+    let last : last_rank rs ≡ latest (stage, xs) = sym (net.newest_is rs legal) ∙ ap latest at in cc
 
 module _ (p : Problem) (sound : SoundProblem (ranked p)) (tell : WindowsTellNodes p) (stage : ℕ × List (List ℤ))
     (lists : List (List Pair)) (h : HoldsCosts p stage lists) (d : PatternNode) (at : d.0 ≡ stage.0) where
   of_entry : (q : Pair) → IsEntry p stage lists d q → Attains p d q
   of_entry q e =
       let w = h.costs.pairs e.place e.within in
-      let a = ((w.undominated q).0 e.has).attained in
-      record {
-        landings = a.landings;
-        legal = a.legal;
-        landed = a.landed;
-        at = e.node (ranks a.landings) a.legal a.at;
-        is = a.is;
-      }
+      let a = ((w.undominated q).0 e.has).attained in search rules
 
   covered : (q : Pair) → Attains p d q → (o : Pair) × IsEntry p stage lists d o × NoWorse o q
   covered q a =
@@ -78,13 +71,10 @@ module _ (p : Problem) (sound : SoundProblem (ranked p)) (tell : WindowsTellNode
       (record { landings = a.landings; legal = a.legal; landed = a.landed; at = there; is = a.is }) in
       let node = λ (os : List ℕ) (legal : Legal (ranked p).rules os)
       (e : node_of p.k os ≡ (stage.0, node_at stage.1 i)).
-      one_pattern p sound os rs (tell os rs legal a.legal (e ∙ sym there)) ∙ a.at in
-      (c.0, record { place = i; within = place.1; node = node; has = c.1 }, c.2)
+      one_pattern p sound os rs (tell os rs legal a.legal (e ∙ sym there)) ∙ a.at in search rules
 
   entries_of : Kept (Attains p d) (IsEntry p stage lists d)
-  entries_of = record { attained = of_entry; covers = covered }
+  entries_of = search (rules, of_entry, covered)
 
 pub entries_keep : (p : Problem) → IsWellFormed p → WindowsTellNodes p → EntriesKeepNodes p
-entries_keep p wf tell stage lists h d at =
-    entries_of p (sound_ranked p wf.table (λ q r b. let a = wf.between_ranks q r b in
-    (a.0, a.1))) tell stage lists h d at
+entries_keep p wf tell stage lists h d at = search (rules, entries_of, sound_ranked)
