@@ -2,10 +2,10 @@
 use Rattle.std.proofs.Common.{rules}
 use Rattle.std.proofs.lemmas.Grind.{common_steps}
 use Rattle.std.proofs.Common.{◌≡◌, ℕ, zero, suc, ◌+◌, ◌*◌, ◌^◌, ◌<◌, ◌≤◌, ◌⊎◌, inl, inr, List, [], ◌∷◌, ◌++◌, length}
-use Rattle.std.proofs.Common.{length-append, set, Bool, Option, replicate, refl, sym, ap, ap₂, subst, ◌∙◌, arith}
+use Rattle.std.proofs.Common.{set, Bool, Option, replicate, refl, sym, ap, ap₂, subst, ◌∙◌, arith}
 use Rattle.std.specs.Prelude.{ℤ, All}
 use Rattle.std.proofs.lemmas.Bool.{cases_eq}
-use Rattle.std.proofs.lemmas.List.{get_or_append_left, get_or_default, get_or_push}
+use Rattle.std.proofs.lemmas.List.{get_or_default}
 use Rattle.landing_rules.specs.Problem.{Problem}
 use Rattle.cps_theory.specs.LandingTrail.{cost_of, ranks}
 use Rattle.cps_theory.specs.Labels.{InPairs, NoWorse, Pair}
@@ -14,10 +14,8 @@ use Rattle.cps_theory.specs.Patterns.{IsShaped, PatternNode, pattern_node}
 use Rattle.cps_theory.specs.laws.LabelDominance.{no_worse_trans}
 use Rattle.cps_theory.specs.laws.PatternShape.{legal_is_shaped}
 use Rattle.cps_theory.specs.Separation.{Landing}
-use Rattle.landing_joint.specs.RankedProblem.{ranked, no_waiting, cost_at, cost_by}
-use Rattle.landing_rules.specs.declared.objective.Objective.{Objective}
+use Rattle.landing_joint.specs.RankedProblem.{ranked, cost_at}
 use Rattle.landing_rules.specs.declared.objective.Objective.TheVariants.{Makespan}
-use Rattle.cps_theory.specs.RankLists.{of_rank}
 use Rattle.cps_network.specs.Landable.{IsLandable}
 use Rattle.cps_network.specs.Lists.{node_at}
 use Rattle.cps_network.specs.Nodes.{Node, latest}
@@ -46,8 +44,7 @@ prefix_shape p (x ∷ rs) one legal =
 pub window_shape : (p : Problem) (stage : ℕ) (xs : List ℤ) (d : PatternNode) → 1 ≤ stage → IsLandable p stage xs
     → IsWindowOf p stage xs d → IsShaped p.k (length p.flights) d × (1 ≤ d.2)
 window_shape p stage xs d one l of =
-    let a = l.1 in
-    let long : length (ranks a.landings) ≡ stage = ap (λ (n : Node). n.0) a.at in grind (arith, prefix_shape p (ranks a.landings) (omega (arith, long, one)) a.legal)
+    let a = l.1 in grind (arith, prefix_shape p (ranks a.landings) (omega (arith, (ap (λ (n : Node). n.0) a.at), one)) a.legal)
 
 pub window_node : (p : Problem) (stage : ℕ) (xs : List ℤ) (d e : PatternNode) → IsLandable p stage xs
     → IsWindowOf p stage xs d → IsWindowOf p stage xs e → d ≡ e
@@ -72,10 +69,7 @@ pub node_near : (p : Problem) → PlacedTellNodes p → (s : ℕ × List (List �
     → (stage ≤ last + k) × (last ≤ stage + k)
 node_near p tell s lists h stage at one i k placed last lt kk told is =
     let w = window_shape p s.0 (node_at s.1 i) (stage, digits_of k stage placed, last) (omega (arith, at, one))
-    (place_landable p s lists h i lt) (window_here p tell s stage at i k placed last kk told is) in
-    let near = w.0.near in
-    let a = near.0 in
-    let b = near.1 in omega arith
+    (place_landable p s lists h i lt) (window_here p tell s stage at i k placed last kk told is) in omega arith
 
 -- ---- lists in slots
 
@@ -330,9 +324,7 @@ module _ (p : Problem) (tell : PlacedTellNodes p) (held : Option HeldProblem) (s
     least_is j lt =
         let a = (l.each j lt).earliest in
         let b = (l.each j lt).cheapest in
-        let free_a = free a.1.window (inside j a.0 a.1) a.0 a.1.has in
-        let free_b = free b.1.window (inside j b.0 b.1) b.0 b.1.has in
-        let same : a.0 ≡ pair_at least j = ap₂ (λ (x y : ℕ). (x, y)) a.2 (free_a ∙ sym free_b ∙ b.2) in search rules
+        let same : a.0 ≡ pair_at least j = ap₂ (λ (x y : ℕ). (x, y)) a.2 ((free a.1.window (inside j a.0 a.1) a.0 a.1.has) ∙ sym (free b.1.window (inside j b.0 b.1) b.0 b.1.has) ∙ b.2) in search rules
 
     pub earliest_gathered : AreGathered p s all_lists (length s.1) pairs
     earliest_gathered = record {

@@ -1,15 +1,14 @@
 -- Lists of pairs with one pair more.
 use Rattle.std.proofs.Common.{rules}
 use Rattle.std.proofs.lemmas.Grind.{common_steps}
-use Rattle.std.proofs.Common.{◌≡◌, ℕ, zero, suc, ◌<◌, ◌⊎◌, inl, inr, List, [], ◌∷◌, length, set, get_or, true, leb}
-use Rattle.std.proofs.Common.{refl, sym, subst, ◌∙◌, le_refl, arith}
+use Rattle.std.proofs.Common.{◌≡◌, ℕ, zero, suc, ◌<◌, ◌⊎◌, inl, inr, List, [], ◌∷◌, length, set, get_or, true}
+use Rattle.std.proofs.Common.{refl, sym, subst, ◌∙◌, arith}
 use Rattle.std.specs.Prelude.{All}
 use Rattle.std.proofs.lemmas.List.{get_or_default}
 use Rattle.cps_theory.specs.Labels.{InPairs, NoWorse, Pair}
 use Rattle.std.specs.List.{list_all}
 use Rattle.std.specs.List.Sorted.{IsPermutation, IsSorted}
 use Rattle.std.specs.Ordering.{nat_cmp, ordering_then}
-use Rattle.std.proofs.lemmas.Bool.{and_from, le-leb}
 use Rattle.std.proofs.lemmas.List.Elements.{All-head, All-tail}
 use Rattle.cps_theory.specs.UndominatedPairs.{sweep}
 use Rattle.cps_theory.specs.laws.Staircases.{sweep_covers, sweep_staircase, sweep_subset}
@@ -19,7 +18,6 @@ use Rattle.cert_writer.specs.Gathered.{IsPairInRange}
 use Rattle.cps_network.specs.shared.PairLists.{all_in, in_all, in_permuted, permuted_in, sorted_in_order}
 use Rattle.cps_network.specs.Pairs.{pair_at}
 use Rattle.cps_network.specs.shared.PairSteps.{at_in}
-use Rattle.landing_rules.specs.Rules.{last_second}
 
 pub itself : (q : Pair) → NoWorse q q
 itself q = omega arith

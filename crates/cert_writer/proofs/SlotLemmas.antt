@@ -2,18 +2,16 @@
 use Rattle.std.proofs.Common.{rules}
 use Rattle.std.proofs.lemmas.Grind.{common_steps}
 use Rattle.std.proofs.Common.{◌≡◌, ℕ, zero, suc, ◌+◌, ◌-◌, ◌*◌, ◌/◌, ◌%◌, ◌^◌, ◌<◌, ◌≤◌, Bool, true, false, cond, eqb}
-use Rattle.std.proofs.Common.{List, [], ◌∷◌, length, refl, sym, ap, ap₂, subst, ◌∙◌, arith, inl, inr}
+use Rattle.std.proofs.Common.{List, [], ◌∷◌, length, refl, sym, ap, ap₂, subst, ◌∙◌, arith}
 use Rattle.std.specs.Prelude.{◌↔◌, ◌⊎◌, max, bit_or}
 use Rattle.std.specs.Int.{bit_at, reverse_bits, reverse_bits_onto, w8}
 use Rattle.std.proofs.lemmas.Nat.{one_shl, shl_whole, pow_pos, div-mul-add}
-use Rattle.std.proofs.lemmas.Nat.Bits.{bit_at_or, bit_at_ones, bit_at_ones_above, bit_at-lt, bit_at-suc}
+use Rattle.std.proofs.lemmas.Nat.Bits.{bit_at_or, bit_at_ones, bit_at_ones_above, bit_at-suc}
 use Rattle.precedence.specs.Pairs.{HasBit}
-use Rattle.std.specs.Ordering.{bool_cmp, nat_cmp, ordering_then}
+use Rattle.std.specs.Ordering.{bool_cmp}
 use Rattle.std.specs.declared.cmp.Ordering.TheVariants.{Less, Equal}
-use Rattle.std.specs.Cmp.{nat_cmp_is}
 use Rattle.std.specs.Cmp.Lexicographic.{slice_cmp}
 use Rattle.std.proofs.Math.Nat.{pow-succ', div-add-mod', pow-le-pow_right}
-use Rattle.std.proofs.lemmas.Bool.{cases_lt}
 use Rattle.cps_theory.specs.Patterns.{PatternNode}
 use Rattle.cps_theory.specs.CertificateClosure.{node_cmp}
 use Rattle.landing_joint.specs.shared.NodePairs.{node_is}
@@ -31,8 +29,7 @@ number_one [] [] l e = refl
 number_one [] (y ∷ ys) l e = cc
 number_one (x ∷ xs) [] l e = cc
 number_one (true ∷ xs) (true ∷ ys) l e =
-    let long : length xs ≡ length ys = omega (arith, l) in
-    let p : 2 ^ length xs ≡ 2 ^ length ys = ap (λ n. 2 ^ n) long in cc (number_one xs ys long (omega (arith, e, p)))
+    let long : length xs ≡ length ys = omega (arith, l) in cc (number_one xs ys long (omega (arith, e, (ap (λ n. 2 ^ n) long))))
 number_one (false ∷ xs) (false ∷ ys) l e = cc (number_one xs ys (omega (arith, l)) (omega (arith, e)))
 number_one (true ∷ xs) (false ∷ ys) l e = search (rules, number_below)
 number_one (false ∷ xs) (true ∷ ys) l e = search (rules, number_below)
@@ -45,8 +42,7 @@ number_less [] (y ∷ ys) l lt = cc
 number_less (x ∷ xs) [] l lt = cc
 number_less (true ∷ xs) (true ∷ ys) l lt =
     let long : length xs ≡ length ys = omega (arith, l) in
-    let p : 2 ^ length xs ≡ 2 ^ length ys = ap (λ n. 2 ^ n) long in
-    number_less xs ys long (omega (arith, lt, p))
+    number_less xs ys long (omega (arith, lt, (ap (λ n. 2 ^ n) long)))
 number_less (false ∷ xs) (false ∷ ys) l lt = number_less xs ys (omega (arith, l)) (omega (arith, lt))
 number_less (false ∷ xs) (true ∷ ys) l lt = refl
 number_less (true ∷ xs) (false ∷ ys) l lt = search (rules, number_below)
@@ -66,16 +62,12 @@ turned_more : (n j rest ones : ℕ) → n ≡ rest * 2 ^ j + number_of (bits j o
     → n ≡ rest / 2 * 2 ^ suc j + number_of (bits (suc j) (ones * 2 + rest % 2))
 turned_more n j rest ones e =
     let b : rest % 2 < 2 = omega arith in
-    let half : (ones * 2 + rest % 2) / 2 ≡ ones = omega arith in
-    let tail : bits j ((ones * 2 + rest % 2) / 2) ≡ bits j ones = ap (bits j) half in
     let value : number_of (bits (suc j) (ones * 2 + rest % 2)) ≡ rest % 2 * 2 ^ j + number_of (bits j ones) =
-    ap₂ (λ (d : Bool) (ds : List Bool). cond d (2 ^ length ds) 0 + number_of ds) (odd_digit ones (rest % 2) b) tail
+    ap₂ (λ (d : Bool) (ds : List Bool). cond d (2 ^ length ds) 0 + number_of ds) (odd_digit ones (rest % 2) b) (ap (bits j) (omega arith))
     ∙ ap (λ m. cond (eqb (rest % 2) 1) (2 ^ m) 0 + number_of (bits j ones)) (length_bits j ones)
     ∙ ap (λ v. v + number_of (bits j ones)) (digit_value (rest % 2) (2 ^ j) b) in
-    let d = pow-succ' 2 j in
-    let split : rest ≡ rest / 2 * 2 + rest % 2 = omega arith in
-    let whole : rest * 2 ^ j ≡ (rest / 2 * 2 + rest % 2) * 2 ^ j = ap (λ r. r * 2 ^ j) split in
-    let up : rest / 2 * 2 ^ suc j ≡ rest / 2 * (2 * 2 ^ j) = ap (λ m. rest / 2 * m) d in omega arith
+    let whole : rest * 2 ^ j ≡ (rest / 2 * 2 + rest % 2) * 2 ^ j = ap (λ r. r * 2 ^ j) (omega arith) in
+    let up : rest / 2 * 2 ^ suc j ≡ rest / 2 * (2 * 2 ^ j) = ap (λ m. rest / 2 * m) (pow-succ' 2 j) in omega arith
 
 turned_step : (n j rest ones : ℕ) → (n ≡ rest * 2 ^ j + number_of (bits j ones)) × (ones < 2 ^ j)
     → (n ≡ rest / 2 * 2 ^ (j + 1) + number_of (bits (j + 1) (ones * 2 + rest % 2)))
@@ -87,9 +79,7 @@ zeros_behind : (d ones : ℕ) → reverse_bits_onto d 0 ones ≡ ones * 2 ^ d
 unfolding reverse_bits_onto
 zeros_behind zero ones = omega arith
 zeros_behind (suc d) ones =
-    let up : ones * 2 ^ suc d ≡ ones * (2 * 2 ^ d) = ap (λ m. ones * m) (pow-succ' 2 d) in
-    let rest : (ones * 2 + 0) * 2 ^ d ≡ ones * 2 ^ suc d = omega (arith, up) in
-    zeros_behind d (ones * 2 + 0) ∙ rest
+    zeros_behind d (ones * 2 + 0) ∙ (omega (arith, (ap (λ m. ones * m) (pow-succ' 2 d))))
 
 -- the turned digits of a number are the high ones of its reversed bits
 turned_onto : (m d n j rest ones : ℕ) → (n ≡ rest * 2 ^ j + number_of (bits j ones)) × (ones < 2 ^ j) → rest < 2 ^ m
@@ -98,9 +88,7 @@ turned_onto : (m d n j rest ones : ℕ) → (n ≡ rest * 2 ^ j + number_of (bit
 unfolding reverse_bits_onto
 turned_onto zero d n j (suc rest) ones h low = search rules
 turned_onto zero d n j zero ones h low =
-    let e : j ≡ j + 0 = omega arith in
-    let v = h.0 in
-    let same : n ≡ number_of (bits j ones) = omega (arith, v) in search (rules, zeros_behind)
+    let e : j ≡ j + 0 = omega arith in search (rules, zeros_behind)
 turned_onto (suc m) d n j rest ones h low =
     let e : j + 1 + m ≡ j + suc m = omega arith in
     let t = turned_onto m d n (j + 1) (rest / 2) (ones * 2 + rest % 2) (turned_step n j rest ones h) (let e =
@@ -117,37 +105,26 @@ pub turned_bits : (k n r : ℕ) → k ≤ 3 → n < 2 ^ (2 * k) → r ≡ revers
 unfolding reverse_bits_onto
 turned_bits k n r near low is =
     let small : 2 ^ (2 * k) ≤ 2 ^ 6 = pow-le-pow_right {n = 2} (omega arith) {j = 6} (omega (arith, near)) in
-    let twice : n * 2 ^ 1 % 256 ≡ n * 2 = omega (arith, low, small) in
     let t = turned_onto (2 * k) (7 - 2 * k) n 0 n 0 (omega arith, omega arith) low in
-    let first : reverse_bits_onto 7 (n * 2 / 2) (0 * 2 + n * 2 % 2) ≡ reverse_bits_onto 7 n 0 =
-    ap₂ (reverse_bits_onto 7) (let e : n * 2 / 2 ≡ n = omega arith in e) (let e : 0 * 2 + n * 2 % 2 ≡ 0 =
-    omega arith in e) in
     let all : 7 ≡ 2 * k + (7 - 2 * k) = omega (arith, near) in
-    let made : r ≡ t.0 * 2 ^ (7 - 2 * k) + 0 =
-    is ∙ ap (λ m. reverse_bits_onto 8 m 0) twice ∙ first ∙ ap (λ m. reverse_bits_onto m n 0) all
-    ∙ t.1 ∙ (let e : t.0 * 2 ^ (7 - 2 * k) ≡ t.0 * 2 ^ (7 - 2 * k) + 0 = omega arith in e) in
-    let high : r / 2 ^ (7 - 2 * k) ≡ t.0 = ap (λ m. m / 2 ^ (7 - 2 * k)) made
-    ∙ div-mul-add t.0 (2 ^ (7 - 2 * k)) 0 (pow_pos (7 - 2 * k)) in
-    let whole : 0 + 2 * k ≡ 2 * k = omega arith in search rules
+    let high : r / 2 ^ (7 - 2 * k) ≡ t.0 = ap (λ m. m / 2 ^ (7 - 2 * k)) (is ∙ ap (λ m. reverse_bits_onto 8 m 0) (omega (arith, low, small)) ∙ (ap₂ (reverse_bits_onto 7) (let e : n * 2 / 2 ≡ n = omega arith in e) (let e : 0 * 2 + n * 2 % 2 ≡ 0 =
+    omega arith in e)) ∙ ap (λ m. reverse_bits_onto m n 0) all
+    ∙ t.1 ∙ (let e : t.0 * 2 ^ (7 - 2 * k) ≡ t.0 * 2 ^ (7 - 2 * k) + 0 = omega arith in e))
+    ∙ div-mul-add t.0 (2 ^ (7 - 2 * k)) 0 (pow_pos (7 - 2 * k)) in search rules
 
 -- ---- bits
 
 bits_add : (n q y : ℕ) → bits n (q * 2 ^ n + y) ≡ bits n y
 bits_add zero q y = refl
 bits_add (suc n) q y =
-    let d = pow-succ' 2 n in
-    let up : q * 2 ^ suc n ≡ q * (2 * 2 ^ n) = ap (λ m. q * m) d in
-    let low : (q * 2 ^ suc n + y) % 2 ≡ y % 2 = omega (arith, up) in
-    let high : (q * 2 ^ suc n + y) / 2 ≡ q * 2 ^ n + y / 2 = omega (arith, up) in
-    ap₂ (λ (b : Bool) (bs : List Bool). b ∷ bs) (ap (λ m. eqb m 1) low) (ap (bits n) high ∙ bits_add n q (y / 2))
+    let up : q * 2 ^ suc n ≡ q * (2 * 2 ^ n) = ap (λ m. q * m) (pow-succ' 2 n) in
+    ap₂ (λ (b : Bool) (bs : List Bool). b ∷ bs) (ap (λ m. eqb m 1) (omega (arith, up))) (ap (bits n) (omega (arith, up)) ∙ bits_add n q (y / 2))
 
 bits_one : (n a b : ℕ) → a < 2 ^ n → b < 2 ^ n → bits n a ≡ bits n b → a ≡ b
 bits_one zero a b x y e = omega (arith, x, y)
 bits_one (suc n) a b x y e =
     let d = pow-succ' 2 n in
-    let low = same_digit (a % 2) (b % 2) (omega arith) (omega arith) (head_same e) in
-    let high = bits_one n (a / 2) (b / 2) (omega (arith, x, d)) (omega (arith, y, d)) (tail_same e) in
-    omega (arith, low, high)
+    omega (arith, (same_digit (a % 2) (b % 2) (omega arith) (omega arith) (head_same e)), (bits_one n (a / 2) (b / 2) (omega (arith, x, d)) (omega (arith, y, d)) (tail_same e)))
   where
     head_same : {c c' : Bool} {cs cs' : List Bool} → c ∷ cs ≡ c' ∷ cs' → c ≡ c'
     head_same e = cc
@@ -207,9 +184,7 @@ number_near k d few long low high =
     let off = d.2 + k - d.0 in
     let small : off < 8 = omega arith in
     let a : v < 2 ^ length d.1 = number_below d.1 in
-    let b : 2 ^ length d.1 ≡ 2 ^ (2 * k) = ap (λ m. 2 ^ m) long in
-    let div : (v * 8 + off) / 8 ≡ v = omega (arith, small) in
-    let rem : (v * 8 + off) % 8 ≡ off = omega (arith, small) in search rules
+    let div : (v * 8 + off) / 8 ≡ v = omega (arith, small) in search rules
 
 -- ---- the order of nodes
 
@@ -242,10 +217,6 @@ pub marks_bits : (k placed : ℕ) → k ≤ 3 → placed < 2 ^ 64 → (y : ℕ)
     → HasBit (bit_or (placed * 2 ^ k % 340282366920938463463374607431768211456)
     (1 * 2 ^ (k + 1) % 340282366920938463463374607431768211456 - 1)) y ↔ ((y ≤ k) ⊎ ((k < y) × HasBit placed (y - k)))
 marks_bits k placed near fits y =
-    let whole : placed * 2 ^ k % 340282366920938463463374607431768211456 ≡ placed * 2 ^ k =
-    shl_whole placed 64 k 128 fits (omega (arith, near)) in
-    let ones : 1 * 2 ^ (k + 1) % 340282366920938463463374607431768211456 ≡ 2 ^ (k + 1) =
-    one_shl (k + 1) 128 (omega (arith, near)) in
     let bit = bit_at_or (placed * 2 ^ k % 340282366920938463463374607431768211456)
     (1 * 2 ^ (k + 1) % 340282366920938463463374607431768211456 - 1) y
-    ∙ ap₂ (λ (a b : ℕ). max (bit_at a y) (bit_at (b - 1) y)) whole ones in search (rules, bit_at_ones_above, shifted_bit, bit_at_ones)
+    ∙ ap₂ (λ (a b : ℕ). max (bit_at a y) (bit_at (b - 1) y)) (shl_whole placed 64 k 128 fits (omega (arith, near))) (one_shl (k + 1) 128 (omega (arith, near))) in search (rules, bit_at_ones_above, shifted_bit, bit_at_ones)

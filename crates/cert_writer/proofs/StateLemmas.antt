@@ -1,10 +1,9 @@
 -- States written node by node.
 use Rattle.std.proofs.Common.{rules}
-use Rattle.std.proofs.Common.{◌≡◌, ℕ, ◌+◌, ◌<◌, ◌≤◌, ◌⊎◌, inl, inr, List, [], ◌∷◌, ◌++◌, true, sym, subst, ◌∙◌, arith}
+use Rattle.std.proofs.Common.{◌≡◌, ℕ, ◌+◌, ◌<◌, ◌≤◌, ◌⊎◌, inl, inr, List, [], ◌∷◌, ◌++◌, true, sym, ◌∙◌, arith}
 use Rattle.std.specs.Prelude.{All}
 use Rattle.std.specs.List.{list_all}
-use Rattle.std.proofs.lemmas.Bool.{cases_eq}
-use Rattle.std.proofs.lemmas.List.Elements.{All-push, All-weaker}
+use Rattle.std.proofs.lemmas.List.Elements.{All-push}
 use Rattle.cps_theory.specs.Labels.{Pair}
 use Rattle.cps_theory.specs.Patterns.{PatternNode}
 use Rattle.certificate.specs.States.{State, is_pair}
@@ -14,7 +13,7 @@ use Rattle.landing_rules.specs.shared.Members.{all_at}
 use Rattle.cert_check.specs.shared.StateEnds.{IsBefore, ascending_end, node_left, node_end}
 use Rattle.cert_writer.specs.Slots.{HasNumber}
 use Rattle.cert_writer.specs.Written.{ComesBelow, AreWrittenBelow}
-use Rattle.cert_writer.proofs.SlotLemmas.{earlier_less, lesser_less, one_node}
+use Rattle.cert_writer.proofs.SlotLemmas.{lesser_less, one_node}
 
 module _ (k : ℕ) (stage number : ℕ) where
   below_more : (d : PatternNode) → ComesBelow k stage number d → ComesBelow k stage (number + 1) d

@@ -2,22 +2,19 @@
 use Rattle.std.proofs.Common.{rules}
 use Rattle.std.proofs.lemmas.Grind.{common_steps}
 use Rattle.std.proofs.Common.{◌≡◌, ℕ, ◌+◌, ◌-◌, ◌*◌, ◌/◌, ◌%◌, ◌<◌, ◌≤◌, ◌^◌, inl, List, [], ◌∷◌, ◌++◌, length, get_or}
-use Rattle.std.proofs.Common.{true, Option, refl, sym, ap, subst, ◌∙◌, arith}
+use Rattle.std.proofs.Common.{true, Option, refl, sym, ◌∙◌, arith}
 use Rattle.std.specs.Prelude.{ℤ}
 use Rattle.std.specs.List.{list_all}
-use Rattle.std.proofs.lemmas.List.{get_or_default}
 use Rattle.landing_rules.specs.Problem.{Problem}
 use Rattle.cps_theory.specs.Labels.{InPairs, NoWorse, Pair}
 use Rattle.cps_theory.specs.Patterns.{IsShaped, PatternNode}
-use Rattle.cps_theory.specs.laws.LabelDominance.{no_worse_trans}
 use Rattle.cps_problem.specs.WellFormed.{IsWellFormed}
 use Rattle.cps_network.specs.Lists.{node_at}
 use Rattle.cps_network.specs.Pairs.{HoldsCosts, list_at}
 use Rattle.replan.specs.Held.{HeldProblem}
 use Rattle.replan.specs.Readers.{AreStagesOf, stage_in, lists_in}
-use Rattle.certificate.specs.Patterns.{bits, is_pattern_length}
+use Rattle.certificate.specs.Patterns.{bits}
 use Rattle.certificate.specs.States.{State, IsState, is_pair, rises}
-use Rattle.certificate.specs.shared.PartsKept.{even_length}
 use Rattle.cert_check.specs.States.{node_of}
 use Rattle.cert_check.specs.shared.KeptPairs.{HoldsEntries}
 use Rattle.cert_writer.specs.StageEntries.{IsEntry, IsEntryOf}
@@ -25,9 +22,9 @@ use Rattle.cert_writer.specs.Gathered.{AreGathered, HasBetter, HasOnly}
 use Rattle.certificate.specs.Patterns.{number_of}
 use Rattle.cert_writer.specs.Slots.{HasNumber, HasSlot}
 use Rattle.cert_writer.specs.Written.{AreWrittenBelow}
-use Rattle.cert_writer.proofs.SlotLemmas.{number_near, number_slot, slot_node, length_bits}
+use Rattle.cert_writer.proofs.SlotLemmas.{number_near, number_slot, length_bits}
 use Rattle.cert_writer.proofs.GatherLemmas.{window_shape, place_landable}
-use Rattle.cert_writer.proofs.StateLemmas.{no_state, one_state, whole_stage}
+use Rattle.cert_writer.proofs.StateLemmas.{one_state}
 
 no_pair : (xs : List Pair) (q : Pair) → length xs ≡ 0 → InPairs q xs → ⊥
 no_pair [] q none i = i
