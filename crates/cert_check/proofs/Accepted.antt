@@ -84,13 +84,15 @@ optimal p v ls ss h e =
     let b = or_none (claim_reason p (claim.Optimal v) ls) (state_reason p (claim.Optimal v) ss) a.1 in
     let k = landings_hold p v ls b.0 in
     let s = states_hold p (claim.Optimal v) ss b.1 in
-    let long = length-map p.flights (λ w. second_of ls w.callsign) in search (rules, are_its_landings, unless_none, feasible_list, passed_low, are_feasible, no_smaller)
+    let long = length-map p.flights (λ w. second_of ls w.callsign) in search
+    (rules, are_its_landings, unless_none, feasible_list, passed_low, are_feasible, no_smaller)
 
 infeasible : (p : Problem) (ls : Landings) (ss : List State) → IsWellFormed p
     → failure p (record { claim = claim.Infeasible; landings = ls; states = ss }) ≡ None → NothingIsFeasible p
 unfolding failure
 infeasible p ls ss h e t f =
-    let b = or_none (claim_reason p claim.Infeasible ls) (state_reason p claim.Infeasible ss) (or_none (flights_reason p claim.Infeasible ls)
+    let b = or_none (claim_reason p claim.Infeasible ls) (state_reason p claim.Infeasible ss)
+    (or_none (flights_reason p claim.Infeasible ls)
     (option_or (claim_reason p claim.Infeasible ls) (state_reason p claim.Infeasible ss)) e).1 in
     let s = states_hold p claim.Infeasible ss b.1 in
     go (count p == 0) refl s.final s

@@ -31,14 +31,16 @@ module _ (p : Problem) (well : IsWellFormed p) where
   map_listed : (t : ℕ → ℕ) → Feasible (ranked p) t → (u : Schedule) × IsFeasibleList p u
       × (list_objective p u ≡ value_at p (second_and_cost (cost_at p) (count p) t))
   map_listed t f =
-      let long = list_of_long (count p) t in search (rules, feasible_list, feasible_agree, list_of_at, list_value, value_agree)
+      let long = list_of_long (count p) t in search
+      (rules, feasible_list, feasible_agree, list_of_at, list_value, value_agree)
 
   -- so a pair that a node of the last stage attains is that of a feasible list
   pub list_from : (w : PatternNode) (q : Pair) → Attains p w q → w.0 ≡ count p → (u : Schedule)
       × IsFeasibleList p u × (list_objective p u ≡ value_at p q)
   list_from w q a at =
       let xs = a.landings in
-      let f = landing_trail_feasible (ranked p) (cost_at p) (sound_problem p well) xs a.legal a.landed (ap (λ (z : PatternNode). z.0) a.at ∙ at) in
+      let f = landing_trail_feasible (ranked p) (cost_at p) (sound_problem p well) xs a.legal a.landed
+      (ap (λ (z : PatternNode). z.0) a.at ∙ at) in
       let u = map_listed (second_in xs) f.0 in search rules
 
   -- ---- an optimum is claimed

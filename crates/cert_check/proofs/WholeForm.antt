@@ -131,4 +131,5 @@ module _ (p : Problem) (well : IsWellFormed p) where
       → AreStates ss × (length ss < 4294967295)
   whole_in_form ss h pairs =
       let few = few_from (2 * p.k) (omega arith) ss 0 (ascending ss h.ascending)
-      (λ s i. (coded s (all_at (IsWholeState p) ss h.each s i), omega arith)) (omega arith) in search (rules, states_in_form)
+      (λ s i. (coded s (all_at (IsWholeState p) ss h.each s i), omega arith)) (omega arith) in search
+      (rules, states_in_form)

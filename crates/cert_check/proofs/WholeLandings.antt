@@ -37,7 +37,8 @@ module _ (p : Problem) (ls : Landings) where
   are_flights : (v : ℕ) → AreItsLandings p ls → are_not_flights p (claim.Optimal v) ls ≡ false
   are_flights v h =
       let once = no_rank (is_not_once p ls)
-      (λ r q. ap not (eq-eqb (count_by (λ l. bytes_eq l.0 (flight p r).callsign) ls) 1 (h.each_once r q.0 q.1))) in search rules
+      (λ r q. ap not (eq-eqb (count_by (λ l. bytes_eq l.0 (flight p r).callsign) ls) 1 (h.each_once r q.0 q.1))) in
+      search rules
 
   module _ (f : IsFeasibleList p (seconds p ls)) where
     abbrev map_feasible : Feasible (ranked p) (of_rank 0 (seconds p ls))

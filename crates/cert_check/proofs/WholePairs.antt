@@ -32,7 +32,12 @@ makespan_pairs p s e h = go s.pairs h.rising (λ q i. costless q ((h.undominated
     go [] up none = omega arith
     go (a ∷ []) up none = omega arith
     go (a ∷ b ∷ rest) up none =
-        let lt : b.1 < a.1 = grind (arith, nat_tests, ((and_parts (nat_lt a.0 b.0) (nat_lt b.1 a.1) (and_parts (nat_lt a.0 b.0 && nat_lt b.1 a.1) (rises (b ∷ rest)) up).0).1)) in
+        let lt : b.1 < a.1 = grind (
+          arith,
+          nat_tests,
+          ((and_parts (nat_lt a.0 b.0) (nat_lt b.1 a.1)
+              (and_parts (nat_lt a.0 b.0 && nat_lt b.1 a.1) (rises (b ∷ rest)) up).0).1),
+        ) in
         absurd (omega (arith, lt, (none a (inl refl)), (none b (inr (inl refl)))))
 
 module _ (p : Problem) (s : State) (q : Pair) where

@@ -158,7 +158,8 @@ module _ (p : Problem) (well : IsWellFormed p) where
       → pattern_node (rules_of p) (ranks xs) ≡ node_of s → is_misshapen p s ≡ false
   shape_from s [] begun legal at = search rules
   shape_from s (x ∷ xs) begun legal at =
-      let h = legal_is_shaped (rules_of p) (λ r. (sound_problem p well).low r) x.0 (ranks xs) legal in search (rules, shaped_is)
+      let h = legal_is_shaped (rules_of p) (λ r. (sound_problem p well).low r) x.0 (ranks xs) legal in search
+      (rules, shaped_is)
 
   well_shaped : (s : State) → IsWholeState p s → is_misshapen p s ≡ false
   well_shaped s h = search (rules, shape_from)
@@ -171,7 +172,8 @@ module _ (p : Problem) (well : IsWellFormed p) where
     covered w q one a =
         let s = whole.every w q one a in
         let i = s.1 in
-        let o = (subst (IsWholeState p) i.2 (whole.each i.0 s.0 i.1)).covers q (subst (λ (z : PatternNode). Attains p z q) (sym s.2) a) in search (rules, covers_by)
+        let o = (subst (IsWholeState p) i.2 (whole.each i.0 s.0 i.1)).covers q
+        (subst (λ (z : PatternNode). Attains p z q) (sym s.2) a) in search (rules, covers_by)
 
     not_missed : (w : PatternNode) (b : Pair) (r : ℕ) → Attains p w b → PatternPermits (rules_of p) w r
         → is_missed p ss w r b ≡ false

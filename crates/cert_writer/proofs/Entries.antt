@@ -61,7 +61,8 @@ module _ (p : Problem) (sound : SoundProblem (ranked p)) (tell : WindowsTellNode
       let place = (h.landable xs).1
       (q, record { landings = a.landings; legal = a.legal; landed = a.landed; at = window; is = a.is }) in
       let i = place.0 in
-      let there : node_of p.k rs ≡ (stage.0, node_at stage.1 i) = window ∙ ap (λ (ys : List ℤ). (stage.0, ys)) (sym (get_or_default stage.1 i [] xs place.1 ∙ place.2)) in
+      let there : node_of p.k rs ≡ (stage.0, node_at stage.1 i) = window ∙ ap (λ (ys : List ℤ). (stage.0, ys))
+      (sym (get_or_default stage.1 i [] xs place.1 ∙ place.2)) in
       let c = (h.costs.pairs i place.1).covers q
       (record { landings = a.landings; legal = a.legal; landed = a.landed; at = there; is = a.is }) in
       let node = λ (os : List ℕ) (legal : Legal (ranked p).rules os)

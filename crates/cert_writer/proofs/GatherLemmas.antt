@@ -44,7 +44,11 @@ prefix_shape p (x ∷ rs) one legal =
 pub window_shape : (p : Problem) (stage : ℕ) (xs : List ℤ) (d : PatternNode) → 1 ≤ stage → IsLandable p stage xs
     → IsWindowOf p stage xs d → IsShaped p.k (length p.flights) d × (1 ≤ d.2)
 window_shape p stage xs d one l of =
-    let a = l.1 in grind (arith, prefix_shape p (ranks a.landings) (omega (arith, (ap (λ (n : Node). n.0) a.at), one)) a.legal)
+    let a = l.1 in grind (
+      arith,
+      prefix_shape p (ranks a.landings) (omega (arith, (ap (λ (n : Node). n.0) a.at), one))
+          a.legal,
+    )
 
 pub window_node : (p : Problem) (stage : ℕ) (xs : List ℤ) (d e : PatternNode) → IsLandable p stage xs
     → IsWindowOf p stage xs d → IsWindowOf p stage xs e → d ≡ e
@@ -324,7 +328,9 @@ module _ (p : Problem) (tell : PlacedTellNodes p) (held : Option HeldProblem) (s
     least_is j lt =
         let a = (l.each j lt).earliest in
         let b = (l.each j lt).cheapest in
-        let same : a.0 ≡ pair_at least j = ap₂ (λ (x y : ℕ). (x, y)) a.2 ((free a.1.window (inside j a.0 a.1) a.0 a.1.has) ∙ sym (free b.1.window (inside j b.0 b.1) b.0 b.1.has) ∙ b.2) in search rules
+        let same : a.0 ≡ pair_at least j = ap₂ (λ (x y : ℕ). (x, y)) a.2
+        ((free a.1.window (inside j a.0 a.1) a.0 a.1.has) ∙ sym (free b.1.window (inside j b.0 b.1) b.0 b.1.has) ∙
+        b.2) in search rules
 
     pub earliest_gathered : AreGathered p s all_lists (length s.1) pairs
     earliest_gathered = record {

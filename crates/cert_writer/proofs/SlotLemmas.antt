@@ -29,7 +29,8 @@ number_one [] [] l e = refl
 number_one [] (y ∷ ys) l e = cc
 number_one (x ∷ xs) [] l e = cc
 number_one (true ∷ xs) (true ∷ ys) l e =
-    let long : length xs ≡ length ys = omega (arith, l) in cc (number_one xs ys long (omega (arith, e, (ap (λ n. 2 ^ n) long))))
+    let long : length xs ≡ length ys = omega (arith, l) in cc
+    (number_one xs ys long (omega (arith, e, (ap (λ n. 2 ^ n) long))))
 number_one (false ∷ xs) (false ∷ ys) l e = cc (number_one xs ys (omega (arith, l)) (omega (arith, e)))
 number_one (true ∷ xs) (false ∷ ys) l e = search (rules, number_below)
 number_one (false ∷ xs) (true ∷ ys) l e = search (rules, number_below)
@@ -63,7 +64,8 @@ turned_more : (n j rest ones : ℕ) → n ≡ rest * 2 ^ j + number_of (bits j o
 turned_more n j rest ones e =
     let b : rest % 2 < 2 = omega arith in
     let value : number_of (bits (suc j) (ones * 2 + rest % 2)) ≡ rest % 2 * 2 ^ j + number_of (bits j ones) =
-    ap₂ (λ (d : Bool) (ds : List Bool). cond d (2 ^ length ds) 0 + number_of ds) (odd_digit ones (rest % 2) b) (ap (bits j) (omega arith))
+    ap₂ (λ (d : Bool) (ds : List Bool). cond d (2 ^ length ds) 0 + number_of ds) (odd_digit ones (rest % 2) b)
+    (ap (bits j) (omega arith))
     ∙ ap (λ m. cond (eqb (rest % 2) 1) (2 ^ m) 0 + number_of (bits j ones)) (length_bits j ones)
     ∙ ap (λ v. v + number_of (bits j ones)) (digit_value (rest % 2) (2 ^ j) b) in
     let whole : rest * 2 ^ j ≡ (rest / 2 * 2 + rest % 2) * 2 ^ j = ap (λ r. r * 2 ^ j) (omega arith) in
@@ -107,7 +109,9 @@ turned_bits k n r near low is =
     let small : 2 ^ (2 * k) ≤ 2 ^ 6 = pow-le-pow_right {n = 2} (omega arith) {j = 6} (omega (arith, near)) in
     let t = turned_onto (2 * k) (7 - 2 * k) n 0 n 0 (omega arith, omega arith) low in
     let all : 7 ≡ 2 * k + (7 - 2 * k) = omega (arith, near) in
-    let high : r / 2 ^ (7 - 2 * k) ≡ t.0 = ap (λ m. m / 2 ^ (7 - 2 * k)) (is ∙ ap (λ m. reverse_bits_onto 8 m 0) (omega (arith, low, small)) ∙ (ap₂ (reverse_bits_onto 7) (let e : n * 2 / 2 ≡ n = omega arith in e) (let e : 0 * 2 + n * 2 % 2 ≡ 0 =
+    let high : r / 2 ^ (7 - 2 * k) ≡ t.0 = ap (λ m. m / 2 ^ (7 - 2 * k))
+    (is ∙ ap (λ m. reverse_bits_onto 8 m 0) (omega (arith, low, small)) ∙
+    (ap₂ (reverse_bits_onto 7) (let e : n * 2 / 2 ≡ n = omega arith in e) (let e : 0 * 2 + n * 2 % 2 ≡ 0 =
     omega arith in e)) ∙ ap (λ m. reverse_bits_onto m n 0) all
     ∙ t.1 ∙ (let e : t.0 * 2 ^ (7 - 2 * k) ≡ t.0 * 2 ^ (7 - 2 * k) + 0 = omega arith in e))
     ∙ div-mul-add t.0 (2 ^ (7 - 2 * k)) 0 (pow_pos (7 - 2 * k)) in search rules
@@ -118,13 +122,18 @@ bits_add : (n q y : ℕ) → bits n (q * 2 ^ n + y) ≡ bits n y
 bits_add zero q y = refl
 bits_add (suc n) q y =
     let up : q * 2 ^ suc n ≡ q * (2 * 2 ^ n) = ap (λ m. q * m) (pow-succ' 2 n) in
-    ap₂ (λ (b : Bool) (bs : List Bool). b ∷ bs) (ap (λ m. eqb m 1) (omega (arith, up))) (ap (bits n) (omega (arith, up)) ∙ bits_add n q (y / 2))
+    ap₂ (λ (b : Bool) (bs : List Bool). b ∷ bs) (ap (λ m. eqb m 1) (omega (arith, up)))
+    (ap (bits n) (omega (arith, up)) ∙ bits_add n q (y / 2))
 
 bits_one : (n a b : ℕ) → a < 2 ^ n → b < 2 ^ n → bits n a ≡ bits n b → a ≡ b
 bits_one zero a b x y e = omega (arith, x, y)
 bits_one (suc n) a b x y e =
     let d = pow-succ' 2 n in
-    omega (arith, (same_digit (a % 2) (b % 2) (omega arith) (omega arith) (head_same e)), (bits_one n (a / 2) (b / 2) (omega (arith, x, d)) (omega (arith, y, d)) (tail_same e)))
+    omega (
+      arith,
+      (same_digit (a % 2) (b % 2) (omega arith) (omega arith) (head_same e)),
+      (bits_one n (a / 2) (b / 2) (omega (arith, x, d)) (omega (arith, y, d)) (tail_same e)),
+    )
   where
     head_same : {c c' : Bool} {cs cs' : List Bool} → c ∷ cs ≡ c' ∷ cs' → c ≡ c'
     head_same e = cc
@@ -219,4 +228,5 @@ pub marks_bits : (k placed : ℕ) → k ≤ 3 → placed < 2 ^ 64 → (y : ℕ)
 marks_bits k placed near fits y =
     let bit = bit_at_or (placed * 2 ^ k % 340282366920938463463374607431768211456)
     (1 * 2 ^ (k + 1) % 340282366920938463463374607431768211456 - 1) y
-    ∙ ap₂ (λ (a b : ℕ). max (bit_at a y) (bit_at (b - 1) y)) (shl_whole placed 64 k 128 fits (omega (arith, near))) (one_shl (k + 1) 128 (omega (arith, near))) in search (rules, bit_at_ones_above, shifted_bit, bit_at_ones)
+    ∙ ap₂ (λ (a b : ℕ). max (bit_at a y) (bit_at (b - 1) y)) (shl_whole placed 64 k 128 fits (omega (arith, near)))
+    (one_shl (k + 1) 128 (omega (arith, near))) in search (rules, bit_at_ones_above, shifted_bit, bit_at_ones)

@@ -46,7 +46,8 @@ numeral : (text : List ℕ) → is_number text ≡ true → digits_value 10 text
 numeral text e small =
     let h = and_parts _ (list_all is_ascii_digit text) e in
     let k = and_parts (ltb 0 (length text)) (eqb (length text) 1 || not (eqb (get_or text 0 0) 48)) h.0 in
-    decimal-digits_value (numerals_by_value _ tells_all_ascii_digits) text (ascii_digits text h.1) (ltb-true 0 (length text) k.0) (λ z. let t = k.1 in grind (arith, common_steps)) small
+    decimal-digits_value (numerals_by_value _ tells_all_ascii_digits) text (ascii_digits text h.1)
+    (ltb-true 0 (length text) k.0) (λ z. let t = k.1 in grind (arith, common_steps)) small
 
 pub number_printed : (text : List ℕ) (least most n : ℕ) → most < 2 ^ 64 → number_in text least most ≡ Some n
     → decimal n ≡ text
@@ -115,7 +116,12 @@ state_printed line s e = go (parts 32 line) refl e
   where
     go : (fields : List (List ℕ)) → parts 32 line ≡ fields → state_by fields ≡ Some s → state_text s ≡ line
     go (word ∷ stage ∷ pattern ∷ last ∷ pairs) f e =
-        let o = passed_then _ _ s e in cc (same_text word (codes "state") o.0, state_from_printed stage pattern last pairs s o.1, joined 32 line (word ∷ stage ∷ pattern ∷ last ∷ pairs) f)
+        let o = passed_then _ _ s e in cc (
+          same_text word (codes "state") o.0,
+          state_from_printed stage pattern last pairs s o.1,
+          joined 32 line
+              (word ∷ stage ∷ pattern ∷ last ∷ pairs) f,
+        )
     go fields f e = absurd cc
 
 pub landing_printed : (line : List ℕ) (l : List ℕ × ℕ) → landing_in line ≡ Some l → landing_text l ≡ line
@@ -128,7 +134,12 @@ landing_printed line l e = go (parts 32 line) refl e
         (option_and_then (λ c. option_map (λ t. (c, t)) (number_in second 0 last_second)) (callsign_in name)) l e in
         let c = then_some (callsign_in name) (λ c. option_map (λ t. (c, t)) (number_in second 0 last_second)) l o.1 in
         let n = cond_some (is_callsign name) name c.0 c.1 in
-        let t = map_some (number_in second 0 last_second) (λ t. (c.0, t)) l c.2 in cc (number_printed second 0 last_second t.0 (omega arith) t.1, same_text word (codes "land") o.0, joined 32 line (word ∷ name ∷ second ∷ []) f)
+        let t = map_some (number_in second 0 last_second) (λ t. (c.0, t)) l c.2 in cc (
+          number_printed second 0 last_second t.0 (omega arith) t.1,
+          same_text word (codes "land") o.0,
+          joined 32
+              line (word ∷ name ∷ second ∷ []) f,
+        )
     go fields f e = absurd cc
 
 pub claim_printed : (line : List ℕ) (c : Claim) → claim_in line ≡ Some c → claim_text c ≡ line
@@ -137,7 +148,8 @@ claim_printed line c e = go (parts 32 line) refl e
   where
     go : (fields : List (List ℕ)) → parts 32 line ≡ fields → claim_by fields ≡ Some c → claim_text c ≡ line
     go (word ∷ kind ∷ []) f e =
-        let w = and_parts (bytes_eq word (codes "claim")) (bytes_eq kind (codes "infeasible")) (cond_some (bytes_eq word (codes "claim") && bytes_eq kind (codes "infeasible")) Infeasible c e).0 in
+        let w = and_parts (bytes_eq word (codes "claim")) (bytes_eq kind (codes "infeasible"))
+        (cond_some (bytes_eq word (codes "claim") && bytes_eq kind (codes "infeasible")) Infeasible c e).0 in
         let a = same_text word (codes "claim") w.0 in
         let b = same_text kind (codes "infeasible") w.1 in cc (joined 32 line (word ∷ kind ∷ []) f)
     go (word ∷ kind ∷ value ∷ []) f e =
@@ -146,5 +158,6 @@ claim_printed line c e = go (parts 32 line) refl e
         let a = same_text word (codes "claim") w.0 in
         let b = same_text kind (codes "optimal") w.1 in
         let v = map_some (number_in value 0 greatest_value) Optimal c o.1 in
-        let n = number_printed value 0 greatest_value v.0 (omega arith) v.1 in grind (arith, joined 32 line (word ∷ kind ∷ value ∷ []) f)
+        let n = number_printed value 0 greatest_value v.0 (omega arith) v.1 in grind
+        (arith, joined 32 line (word ∷ kind ∷ value ∷ []) f)
     go fields f e = absurd cc

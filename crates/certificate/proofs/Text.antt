@@ -72,7 +72,13 @@ state_parts (s ∷ ss) h = search (rules, cut, state_lacks, state_parts ss h.1)
 body_parts : (ls : List (List ℕ × ℕ)) (ss : List State) → AreLandings ls → AreStates ss
     → parts 10 (landing_lines ls ++ state_lines ss) ≡ map landing_text ls ++ (map state_text ss ++ [] ∷ [])
 body_parts [] ss hl h = state_parts ss h
-body_parts (l ∷ ls) ss hl h = grind (arith, common_steps, body_parts ls ss hl.2 h, cut 10 (landing_text l) (landing_lines ls ++ state_lines ss) (landing_lacks l hl.0 hl.1) refl)
+body_parts (l ∷ ls) ss hl h = grind (
+  arith,
+  common_steps,
+  body_parts ls ss hl.2 h,
+  cut 10 (landing_text l) (landing_lines ls ++ state_lines ss)
+      (landing_lacks l hl.0 hl.1) refl,
+)
 
 as_lines : (c : Claim) (ls : List (List ℕ × ℕ)) (ss : List State) (x : Cert)
     → lines_all 3 c ([], []) (map landing_text ls ++ (map state_text ss ++ [] ∷ [])) ≡ Ok x

@@ -52,7 +52,8 @@ pub pairs_range : (ps : List (List ℕ)) (xs : List Pair) → pairs_in ps ≡ So
 unfolding pairs_in
 pairs_range [] xs e = cc
 pairs_range (p ∷ ps) xs e =
-    let more = map_some (pairs_in ps) _ xs (then_some (pair_in p) _ xs e).2 in search (rules, pair_range, pairs_range ps more.0 more.1)
+    let more = map_some (pairs_in ps) _ xs (then_some (pair_in p) _ xs e).2 in search
+    (rules, pair_range, pairs_range ps more.0 more.1)
 
 state_from_range : (stage pattern last : List ℕ) (pairs : List (List ℕ)) (s : State)
     → state_from stage pattern last pairs ≡ Some s → IsState s
@@ -105,7 +106,8 @@ done false x y f e = absurd cc
 line_keeps : (n : ℕ) (b : Body) (line : List ℕ) (b' : Body) → line_in n b line ≡ Ok b' → IsBody b
     → IsBody b' × (length b'.1 ≤ suc (length b.1))
 unfolding line_in
-line_keeps n b line b' e h = search (rules, landing_range, landings_more, states_more, state_range, ascending_more, length-append)
+line_keeps n b line b' e h = search
+    (rules, landing_range, landings_more, states_more, state_range, ascending_more, length-append)
 
 lines_keep : (n : ℕ) (c : Claim) (b : Body) (line : List ℕ) (rest : List (List ℕ)) (x : Cert)
     → IsClaim c → IsBody b → length b.1 + length rest < 4294967295 → lines_in n c b line rest ≡ Ok x → IsCertificate x

@@ -50,7 +50,14 @@ states_back : (n : ℕ) (c : Claim) (ls : List (List ℕ × ℕ)) (pre ss : List
     (record { claim = c; landings = ls; states = pre ++ ss })
 unfolding lines_in
 states_back n c ls pre [] h a = search rules
-states_back n c ls pre (s ∷ ss) h a = search (rules, state_line, after_last, append_assoc, states_back (n + 1) c ls (pre ++ s ∷ []) ss h.1 (subst AreAscending (sym (append_assoc pre (s ∷ []) ss)) a))
+states_back n c ls pre (s ∷ ss) h a = search (
+  rules,
+  state_line,
+  after_last,
+  append_assoc,
+  states_back (n + 1) c ls (pre ++ s ∷ []) ss h.1
+      (subst AreAscending (sym (append_assoc pre (s ∷ []) ss)) a),
+)
 
 -- the lines of the landings and of the states give them back
 pub body_back : (n : ℕ) (c : Claim) (pre ls : List (List ℕ × ℕ)) (ss : List State) → AreLandings ls
@@ -58,4 +65,5 @@ pub body_back : (n : ℕ) (c : Claim) (pre ls : List (List ℕ × ℕ)) (ss : Li
     → lines_all n c (pre, []) (map landing_text ls ++ (map state_text ss ++ [] ∷ [])) ≡ Ok
     (record { claim = c; landings = pre ++ ls; states = ss })
 body_back n c pre [] ss hl h a = simp (states_back, append-nil)
-body_back n c pre (l ∷ ls) ss hl h a = search (rules, more, append_assoc, landing_line, body_back (n + 1) c (pre ++ l ∷ []) ls ss hl.2 h a)
+body_back n c pre (l ∷ ls) ss hl h a = search
+    (rules, more, append_assoc, landing_line, body_back (n + 1) c (pre ++ l ∷ []) ls ss hl.2 h a)

@@ -39,7 +39,8 @@ no_states (s ∷ ss) e = search rules
 line_printed : (n : ℕ) (b : Body) (line : List ℕ) (b' : Body) → line_in n b line ≡ Ok b'
     → body_text b' ≡ body_text b ++ (line ++ 10 ∷ [])
 unfolding line_in
-line_printed n b line b' e = search (rules, no_states, landings_printed, landing_printed, states_printed, state_printed, append_assoc)
+line_printed n b line b' e = search
+    (rules, no_states, landings_printed, landing_printed, states_printed, state_printed, append_assoc)
 
 no_bytes : (line : List ℕ) → length line == 0 ≡ true → line ≡ []
 no_bytes [] e = refl
@@ -68,7 +69,8 @@ prints_back bytes c e = head (parts 10 bytes) refl e
     body first second v (line ∷ rest) is said f e =
         let k = lines_printed 3 v ([], []) line rest c e in
         let claim : claim_text c.claim ≡ second = ap claim_text k.1 ∙ claim_printed second v said in
-        let one : codes "certificate 1" ≡ first = sym (same_text first (codes "certificate 1") is) in cc (joined 10 bytes (first ∷ second ∷ line ∷ rest) f)
+        let one : codes "certificate 1" ≡ first = sym (same_text first (codes "certificate 1") is) in cc
+        (joined 10 bytes (first ∷ second ∷ line ∷ rest) f)
 
     claim : (first : List ℕ) (rest : List (List ℕ)) → bytes_eq first (codes "certificate 1") ≡ true
         → parts 10 bytes ≡ first ∷ rest → claim_behind rest ≡ Ok c → codes "certificate 1"

@@ -36,8 +36,10 @@ pub cancelled_is : (f : Fixed) (closures : List Span) (clock : Option ℕ) (c : 
 cancelled_is f closures clock c es fs place a keyed distinct at is e =
     let vs = values_of es in
     let moved : values_of fs ≡ move_index vs place (length vs - 1) =
-    values_moved es fs place (length es - 1) e ∙ ap (λ n. move_index vs place (n - 1)) (sym (length-map es (λ e. e.1))) in
-    let same : length (values_of fs) ≡ length vs = ap length moved ∙ moved_long vs place a at in grind (arith, common_steps, one_gone, keyed_apart, moved_back)
+    values_moved es fs place (length es - 1) e ∙ ap (λ n. move_index vs place (n - 1))
+    (sym (length-map es (λ e. e.1))) in
+    let same : length (values_of fs) ≡ length vs = ap length moved ∙ moved_long vs place a at in grind
+    (arith, common_steps, one_gone, keyed_apart, moved_back)
 
 pub frozen_is : (s now : Situation) (h n : ℕ) (ts : List ℕ) (clock : Option ℕ) (counts : Vec (Callsign × ℕ) Global)
     → AreApart s.active → length s.active ≡ length ts →
@@ -45,4 +47,8 @@ pub frozen_is : (s now : Situation) (h n : ℕ) (ts : List ℕ) (clock : Option 
     → clock ≡ s.clock → IsClock clock → counts.items ≡ counts_of s.active →
     IsOf s (record s { clock = Some n; active = active_after_clock s.aerodrome h s.active (Some ts) })
     (Freeze clock counts) now
-frozen_is s now h n ts clock counts apart long is same within kept = grind (arith, waiting_back s.aerodrome h (landings s.active ts) (counts_of s.active) s.active ts long (own_count s.active apart))
+frozen_is s now h n ts clock counts apart long is same within kept = grind (
+  arith,
+  waiting_back s.aerodrome h (landings s.active ts) (counts_of s.active) s.active ts long
+      (own_count s.active apart),
+)

@@ -140,4 +140,5 @@ pub frozen_flights : (a : Aerodrome) (h : ℕ) (active : List Active) (all : Lis
     map (λ p. frozen_one z p.0 p.1) (zip xs ts) ≡ map (after_clock a h (landings active all)) (landings xs ts)
 frozen_flights a h active all z of [] ts = refl
 frozen_flights a h active all z of (x ∷ xs) [] = refl
-frozen_flights a h active all z of (x ∷ xs) (t ∷ ts) = grind (arith, common_steps, frozen_flights a h active all z of xs ts)
+frozen_flights a h active all z of (x ∷ xs) (t ∷ ts) = grind
+    (arith, common_steps, frozen_flights a h active all z of xs ts)

@@ -128,7 +128,8 @@ module _ (c : Callsign) (g : Active → Active) where
   one_set : (a : Active) (es : List Entry) → Keyed es → AreApart (values_of es) → lookup (bytes_eq c) es ≡ Some a
       → values_of (set_value (bytes_eq c) es (g a)) ≡ map (at_named c g) (values_of es)
   one_set a [] h apart n = cc
-  one_set a (e ∷ es) h apart n = search (rules, others, none_behind, one_set a es (tail_keyed e es h) (tail_apart e.1 (values_of es) apart))
+  one_set a (e ∷ es) h apart n = search
+      (rules, others, none_behind, one_set a es (tail_keyed e es h) (tail_apart e.1 (values_of es) apart))
 
   -- the flights of a map where the value under the callsign has changed
   pub changed_one : (es fs : List Entry) (a : Active) (x : Active) → Keyed es → IsDistinct bytes_eq (keys_of es)
@@ -152,7 +153,8 @@ estimated_back c eta windows (x ∷ xs) a apart f =
         back (estimated c eta windows x) ∷ map back (map (estimated c eta windows) xs) ≡ x ∷ xs
     go true e g ih =
         let none = none_behind c x xs apart e in
-        ap (λ y. y ∷ map back (map (estimated c eta windows) xs)) (ap (λ b. back (cond b (with_estimate eta windows x) x)) e
+        ap (λ y. y ∷ map back (map (estimated c eta windows) xs))
+        (ap (λ b. back (cond b (with_estimate eta windows x) x)) e
         ∙ ap (λ b. cond b (with_estimate a.flight.eta a.flight.windows (with_estimate eta windows x))
         (with_estimate eta windows x)) e
         ∙ ap (λ v. with_estimate v.flight.eta v.flight.windows (with_estimate eta windows x)) (sym (same_Some x a g)))
@@ -210,7 +212,8 @@ module _ {X : Type 0} (xs : List X) (i : ℕ) (x : X) (at : slice_get xs i ≡ S
   moved_back =
       let lt = slice_get_within xs i x at in
       let n = length-remove xs i lt in
-      let m : length (remove xs i ++ x ∷ []) - 1 ≡ length (remove xs i) = omega (arith, length_push (remove xs i) x) in search (rules, moved, push_moved, put_back)
+      let m : length (remove xs i ++ x ∷ []) - 1 ≡ length (remove xs i) = omega (arith, length_push (remove xs i) x)
+      in search (rules, moved, push_moved, put_back)
 
   pub moved_long : length (move_index xs i (length xs - 1)) ≡ length xs
   moved_long = search (rules, slice_get_within, length-remove, length_push, moved)

@@ -58,8 +58,16 @@ clash_none : (table : List (List ℕ)) (p : ℕ) (xs : List Landing) → clash_f
     → is_pair_separated table g h ≡ true
 clash_none table p [] e g h m k n = absurd m
 clash_none table p (x ∷ xs) e g h (inl s) (inl t) n = search rules
-clash_none table p (x ∷ xs) e g h (inl s) (inr k) n = grind (arith, first_none (clash_at table p x) (p + 1) xs (or_none (first_from (clash_at table p x) (p + 1) xs) (clash_from table (p + 1) xs) e).0 h k)
-clash_none table p (x ∷ xs) e g h (inr m) (inl t) n = grind (arith, first_none (clash_at table p x) (p + 1) xs (or_none (first_from (clash_at table p x) (p + 1) xs) (clash_from table (p + 1) xs) e).0 g m)
+clash_none table p (x ∷ xs) e g h (inl s) (inr k) n = grind (
+  arith,
+  first_none (clash_at table p x) (p + 1) xs
+      (or_none (first_from (clash_at table p x) (p + 1) xs) (clash_from table (p + 1) xs) e).0 h k,
+)
+clash_none table p (x ∷ xs) e g h (inr m) (inl t) n = grind (
+  arith,
+  first_none (clash_at table p x) (p + 1) xs
+      (or_none (first_from (clash_at table p x) (p + 1) xs) (clash_from table (p + 1) xs) e).0 g m,
+)
 clash_none table p (x ∷ xs) e g h (inr m) (inr k) n =
     clash_none table (p + 1) xs (or_none (first_from (clash_at table p x) (p + 1) xs) (clash_from table (p + 1) xs) e).1
     g h m k n
@@ -195,9 +203,11 @@ module _ (a : Aerodrome) (fs : List files.Flight) (kept : AreKept a fs) (can : C
       let y = in_map made (map flight_of fs) x.0 x.1 in
       let g = in_map flight_of fs y.0 y.1 in
       let own : x.0 ≡ made (flight_of g.0) = y.2 ∙ ap made g.2 in
-      let e = look_from (λ (e : FrozenLanding). (e.callsign, e.second)) g.0.callsign a.frozen f.second (sym (ap (λ (z : Active). z.frozen) own) ∙ x.2) in
+      let e = look_from (λ (e : FrozenLanding). (e.callsign, e.second)) g.0.callsign a.frozen f.second
+      (sym (ap (λ (z : Active). z.frozen) own) ∙ x.2) in
       let given_own : given_landing s.active e.0 ≡ Some f =
-      ap (λ c. option_map (λ (z : Active). landing z e.0.second) (find (named c) s.active)) (e.2 ∙ sym (ap (λ (z : Active). z.flight.callsign) own))
+      ap (λ c. option_map (λ (z : Active). landing z e.0.second) (find (named c) s.active))
+      (e.2 ∙ sym (ap (λ (z : Active). z.flight.callsign) own))
       ∙ ap (option_map (λ (z : Active). landing z e.0.second)) (find_own x.0 s.active apart x.1)
       ∙ ap (λ t. Some (landing x.0 t)) e.3
       ∙ ap (λ z. Some z) (sym x.3) in search (rules, filter_map_in)

@@ -10,9 +10,15 @@ use Rattle.cert_check.proofs.closure.covers.Goals as goal
 pub returns-in-Err : goal.returns-in-Err
 returns-in-Err c =
     let ss = c.args.states.now in
-    let split = (rw c.in-Err.is at c.find.ensures.found) (non_decreasing node_of pairs_of (seen c.args.node.now) ss (in_node_order ss c.requires)) in search (rules, none_covers)
+    let split = (rw c.in-Err.is at c.find.ensures.found)
+    (non_decreasing node_of pairs_of (seen c.args.node.now) ss (in_node_order ss c.requires)) in search
+    (rules, none_covers)
 
 pub returns-in-Ok : goal.returns-in-Ok
 returns-in-Ok c =
     let ss = c.args.states.now in
-    let s = c.index-states-at.result in grind (arith, found_covers node_of pairs_of (seen c.args.node.now) c.args.pair ss (in_node_order ss c.requires) c.in-Ok.at s (rw c.in-Ok.is at c.find.ensures.bound) ((rw c.in-Ok.is at c.find.ensures.found) s))
+    let s = c.index-states-at.result in grind (
+      arith,
+      found_covers node_of pairs_of (seen c.args.node.now) c.args.pair ss (in_node_order ss c.requires)
+          c.in-Ok.at s (rw c.in-Ok.is at c.find.ensures.bound) ((rw c.in-Ok.is at c.find.ensures.found) s),
+    )

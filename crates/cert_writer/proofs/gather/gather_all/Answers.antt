@@ -25,7 +25,12 @@ loop-i-preserved c =
     let slots = c.in_ok-slots.slots.items in
     let hs = c.in_ok-slots.ensures in
     let pairs = c.loop-i.pairs.items in
-    let lt : i < length s.1 = omega (arith, c.loop-i-test.true, (ap (λ (xs : List ℕ). length xs) c.places-places.ensures), c.requires.windows.together.long) in
+    let lt : i < length s.1 = omega (
+      arith,
+      c.loop-i-test.true,
+      (ap (λ (xs : List ℕ). length xs) c.places-places.ensures),
+      c.requires.windows.together.long,
+    ) in
     let place = told_at n.places i in
     let same : told_at c.places-places.result.now i ≡ place =
     ap (λ (xs : List ℕ). told_at xs i) c.places-places.ensures in
@@ -54,4 +59,12 @@ loop-i-preserved c =
 pub returns : goal.returns
 returns c =
     subst (λ (m : ℕ). AreGathered c.args.problem.now (stage_in (held_of c.args.kept.now) c.args.stage)
-    (lists_in (held_of c.args.kept.now) c.args.stage) m c.loop-i.pairs.items) (omega (arith, c.loop-i-test.false, c.loop-i.auto.i-end, (ap (λ (xs : List ℕ). length xs) c.places-places.ensures), c.requires.windows.together.long)) c.loop-i.invariant
+    (lists_in (held_of c.args.kept.now) c.args.stage) m c.loop-i.pairs.items)
+    (omega (
+      arith,
+      c.loop-i-test.false,
+      c.loop-i.auto.i-end,
+      (ap (λ (xs : List ℕ). length xs) c.places-places.ensures),
+      c.requires.windows.together.long,
+    ))
+    c.loop-i.invariant

@@ -17,7 +17,8 @@ loop-j-init c =
     let least = c.in_ok-least.least.items in
     subst (λ (pairs : List (List Pair)). AreEarliest slots least (8 * 2 ^ (2 * p.k)) 0 pairs)
     (sym (c.in_ok-pairs.ensures
-    ∙ ap (λ (k : ℕ). replicate {A = List Pair} (8 * 2 ^ (2 * k)) []) c.most_shift-k.ensures.k)) (no_earliest slots least (8 * 2 ^ (2 * p.k)))
+    ∙ ap (λ (k : ℕ). replicate {A = List Pair} (8 * 2 ^ (2 * k)) []) c.most_shift-k.ensures.k))
+    (no_earliest slots least (8 * 2 ^ (2 * p.k)))
 
 pub loop-j-preserved : goal.loop-j-preserved
 loop-j-preserved c =
@@ -29,15 +30,18 @@ loop-j-preserved c =
     let each = c.in_ok-least.ensures.least.one_each in
     let lt : j < length least = omega (arith, c.loop-j-test.true) in
     let slot : c.index-slot.result.now ≡ told_at slots j =
-    c.index-slot.ensures ∙ get_or_default slots j c.index-slot.result.now 0 (omega (arith, lt, each, c.in_ok-slots.ensures.long)) in
+    c.index-slot.ensures ∙ get_or_default slots j c.index-slot.result.now 0
+    (omega (arith, lt, each, c.in_ok-slots.ensures.long)) in
     let earliest : c.index-earliest.result.now ≡ pair_at least j =
     c.index-earliest.ensures ∙ get_or_default least j c.index-earliest.result.now (0, 0) lt in
-    let inside : told_at slots j < length pairs = omega (arith, (c.in_ok-slots.ensures.each j (omega (arith, lt, each))).has.within, c.loop-j.invariant.room_is) in
+    let inside : told_at slots j < length pairs = omega
+    (arith, (c.in_ok-slots.ensures.each j (omega (arith, lt, each))).has.within, c.loop-j.invariant.room_is) in
     let old : c.index_mut.result.now ≡ list_at pairs (told_at slots j) =
     c.index_mut.ensures.value ∙ get_or_default pairs c.index-slot.result.now c.index_mut.result.now []
     (omega (arith, slot, inside)) ∙ ap (list_at pairs) slot in
     let new = c.keep.new.self in
-    subst (λ (m : ℕ). AreEarliest slots least room (j + 1) (set pairs m new)) (sym slot) (one_earliest slots least room j pairs c.loop-j.invariant inside new
+    subst (λ (m : ℕ). AreEarliest slots least room (j + 1) (set pairs m new)) (sym slot)
+    (one_earliest slots least room j pairs c.loop-j.invariant inside new
     (subst (λ (l : List Pair). (q : Pair) → InPairs q new → InPairs q l ⊎ (q ≡ pair_at least j)) old
     (subst (λ (e : Pair). (q : Pair) → InPairs q new → InPairs q c.index_mut.result.now
     ⊎ (q ≡ e)) earliest c.in_ok-keep.ensures.found))
@@ -57,4 +61,6 @@ returns c =
     earliest_gathered p c.requires.laws.placed (held_of c.args.kept.now) stage (are.number stage c.requires.stage.1)
     (are.pairs stage c.requires.stage.1) c.args.windows.now c.requires.windows slots c.in_ok-slots.ensures
     c.requires.makespan least c.in_ok-least.ensures.least c.loop-j.pairs.items
-    (subst (λ (m : ℕ). AreEarliest slots least (8 * 2 ^ (2 * p.k)) m c.loop-j.pairs.items) (omega (arith, c.loop-j-test.false, c.loop-j.auto.j-end, c.in_ok-least.ensures.least.one_each)) c.loop-j.invariant)
+    (subst (λ (m : ℕ). AreEarliest slots least (8 * 2 ^ (2 * p.k)) m c.loop-j.pairs.items)
+    (omega (arith, c.loop-j-test.false, c.loop-j.auto.j-end, c.in_ok-least.ensures.least.one_each))
+    c.loop-j.invariant)

@@ -54,7 +54,11 @@ best-requires c =
     let ones = c.turned-ones.result in
     let slots = c.args.slots.now.items in
     let slot = ones * 8 + c.args.number % 8 in
-    subst (λ (l : List Pair). All IsPairInRange l) (sym (slot_is slots slot (slot_within c.args.problem.now.k c.args.number ones (length slots) (subst (λ (m : ℕ). ones < 2 ^ (2 * m)) c.most_shift-k.ensures.k c.turned-ones.ensures.below) c.requires.gathered.room) c.index.result.now c.index.ensures))
+    subst (λ (l : List Pair). All IsPairInRange l)
+    (sym (slot_is slots slot
+    (slot_within c.args.problem.now.k c.args.number ones (length slots)
+    (subst (λ (m : ℕ). ones < 2 ^ (2 * m)) c.most_shift-k.ensures.k c.turned-ones.ensures.below)
+    c.requires.gathered.room) c.index.result.now c.index.ensures))
     (c.requires.gathered.in_range slot)
 
 pub returns-then-is_empty : goal.returns-then-is_empty
@@ -62,7 +66,8 @@ returns-then-is_empty c =
     let p = c.args.problem.now in
     let held = held_of c.args.kept.now in
     let best = c.in_ok-pairs.pairs.items in
-    none_best p (stage_in held) (lists_in held) c.args.stage (stage_held p held c.args.stage c.most_shift-k.ensures.well_formed
+    none_best p (stage_in held) (lists_in held) c.args.stage
+    (stage_held p held c.args.stage c.most_shift-k.ensures.well_formed
     (c.stages-held.ensures.held p c.requires.held) c.requires.stage) c.args.number c.turned-ones.result
     c.args.slots.now.items best (best_at p held c.args.stage c.args.number c.most_shift-k.result c.turned-ones.result
     c.args.slots.now.items c.index.result.now best c.most_shift-k.ensures.k
@@ -77,13 +82,16 @@ overflow_sub-stage c =
     let best = c.in_ok-pairs.pairs.items in
     omega (
       arith,
-      (last_known p (stage_in held) (lists_in held) c.args.stage (stage_held p held c.args.stage c.most_shift-k.ensures.well_formed
+      (last_known p (stage_in held) (lists_in held) c.args.stage
+          (stage_held p held c.args.stage c.most_shift-k.ensures.well_formed
           (c.stages-held.ensures.held p c.requires.held) c.requires.stage) c.args.number
-          c.turned-ones.result c.args.slots.now.items best (best_at p held c.args.stage c.args.number c.most_shift-k.result c.turned-ones.result
+          c.turned-ones.result c.args.slots.now.items best
+          (best_at p held c.args.stage c.args.number c.most_shift-k.result c.turned-ones.result
           c.args.slots.now.items c.index.result.now best c.most_shift-k.ensures.k
           c.turned-ones.ensures.digits c.turned-ones.ensures.below c.requires.gathered c.index.ensures
           c.in_ok-pairs.ensures.found c.in_ok-pairs.ensures.covers)
-          (subst (λ (l : List Pair). 1 ≤ length l) c.as_slice.ensures.value (grind (arith, nat_tests, c.if-is_empty.ensures)))),
+          (subst (λ (l : List Pair). 1 ≤ length l) c.as_slice.ensures.value
+          (grind (arith, nat_tests, c.if-is_empty.ensures)))),
       c.most_shift-k.ensures.k,
     )
 
@@ -93,13 +101,17 @@ new-requires c =
     let held = held_of c.args.kept.now in
     let best = c.in_ok-pairs.pairs.items in
     subst IsState (sym (made c.most_shift-k.result p.k c.args.stage c.args.number c.turned-ones.result
-    _ best c.most_shift-k.ensures.k c.new-pattern.ensures)) (written_in_form p (stage_in held) (lists_in held) c.args.stage (stage_held p held c.args.stage c.most_shift-k.ensures.well_formed
+    _ best c.most_shift-k.ensures.k c.new-pattern.ensures))
+    (written_in_form p (stage_in held) (lists_in held) c.args.stage
+    (stage_held p held c.args.stage c.most_shift-k.ensures.well_formed
     (c.stages-held.ensures.held p c.requires.held) c.requires.stage) c.args.number
-    c.turned-ones.result c.args.slots.now.items best (best_at p held c.args.stage c.args.number c.most_shift-k.result c.turned-ones.result
+    c.turned-ones.result c.args.slots.now.items best
+    (best_at p held c.args.stage c.args.number c.most_shift-k.result c.turned-ones.result
     c.args.slots.now.items c.index.result.now best c.most_shift-k.ensures.k
     c.turned-ones.ensures.digits c.turned-ones.ensures.below c.requires.gathered c.index.ensures
     c.in_ok-pairs.ensures.found c.in_ok-pairs.ensures.covers)
-    (subst (λ (l : List Pair). 1 ≤ length l) c.as_slice.ensures.value (grind (arith, nat_tests, c.if-is_empty.ensures))) c.in_ok-pairs.ensures.rising
+    (subst (λ (l : List Pair). 1 ≤ length l) c.as_slice.ensures.value
+    (grind (arith, nat_tests, c.if-is_empty.ensures))) c.in_ok-pairs.ensures.rising
     c.in_ok-pairs.ensures.in_range)
 
 pub returns : goal.returns
@@ -108,12 +120,18 @@ returns c =
     let held = held_of c.args.kept.now in
     let best = c.in_ok-pairs.pairs.items in
     subst (λ (ss : List State). AreWrittenBelow p.k (IsEntryOf p (stage_in held) (lists_in held)) c.args.stage
-    (c.args.number + 1) ss) (sym (c.in_ok-push.ensures.items ∙ ap (λ (s : State). c.args.states.now.items ++ s ∷ []) (c.new.ensures ∙ made c.most_shift-k.result p.k c.args.stage c.args.number c.turned-ones.result
-    _ best c.most_shift-k.ensures.k c.new-pattern.ensures))) (written_more p (stage_in held) (lists_in held) c.args.stage (stage_held p held c.args.stage c.most_shift-k.ensures.well_formed
+    (c.args.number + 1) ss)
+    (sym (c.in_ok-push.ensures.items ∙ ap (λ (s : State). c.args.states.now.items ++ s ∷ [])
+    (c.new.ensures ∙ made c.most_shift-k.result p.k c.args.stage c.args.number c.turned-ones.result
+    _ best c.most_shift-k.ensures.k c.new-pattern.ensures)))
+    (written_more p (stage_in held) (lists_in held) c.args.stage
+    (stage_held p held c.args.stage c.most_shift-k.ensures.well_formed
     (c.stages-held.ensures.held p c.requires.held) c.requires.stage) c.args.number
-    c.turned-ones.result c.args.slots.now.items best (best_at p held c.args.stage c.args.number c.most_shift-k.result c.turned-ones.result
+    c.turned-ones.result c.args.slots.now.items best
+    (best_at p held c.args.stage c.args.number c.most_shift-k.result c.turned-ones.result
     c.args.slots.now.items c.index.result.now best c.most_shift-k.ensures.k
     c.turned-ones.ensures.digits c.turned-ones.ensures.below c.requires.gathered c.index.ensures
     c.in_ok-pairs.ensures.found c.in_ok-pairs.ensures.covers)
-    (subst (λ (l : List Pair). 1 ≤ length l) c.as_slice.ensures.value (grind (arith, nat_tests, c.if-is_empty.ensures))) c.args.states.now.items
+    (subst (λ (l : List Pair). 1 ≤ length l) c.as_slice.ensures.value
+    (grind (arith, nat_tests, c.if-is_empty.ensures))) c.args.states.now.items
     c.requires.written c.in_ok-pairs.ensures.rising c.in_ok-pairs.ensures.in_range)

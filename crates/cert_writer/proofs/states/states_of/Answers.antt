@@ -32,4 +32,5 @@ returns-clause-whole c =
     (all_written p.k (IsEntryOf p (stage_in held) (lists_in held)) (length p.flights) c.loop-stage.states.items
     (subst (λ (m : ℕ). AreWrittenBelow p.k (IsEntryOf p (stage_in held) (lists_in held)) m 0 c.loop-stage.states.items)
     (let past = c.loop-stage.auto.stage-end (omega arith) in
-    let whole = are.whole in omega (arith, past, c.loop-stage-test.false, c.stages-stage-end.ensures.value, whole)) c.loop-stage.invariant.0) (λ d q e. e.0))
+    let whole = are.whole in omega (arith, past, c.loop-stage-test.false, c.stages-stage-end.ensures.value, whole))
+    c.loop-stage.invariant.0) (λ d q e. e.0))

@@ -20,7 +20,8 @@ loop-j-preserved c =
       λ q i. elim (now.found q i) [
         | inl old ↦ inv.0 q old
         | inr e ↦ inr (subst (λ (x : Pair). InPairs x list) (sym e)
-            (at_in list c.loop-j.j c.label.result (omega (arith, c.loop-j-test.true, c.label_count-j-end.ensures)) (sym c.label.ensures.value)))
+            (at_in list c.loop-j.j c.label.result (omega (arith, c.loop-j-test.true, c.label_count-j-end.ensures))
+            (sym c.label.ensures.value)))
       ],
       λ q i. (let o = inv.1 q i in let n = now.covers o.0 (inl o.1) in (n.0, n.1, no_worse_trans n.0 o.0 q n.2 o.2)),
       λ m less. elim (cases_eq m c.loop-j.j) [

@@ -23,5 +23,7 @@ returns c =
     ∙ c.requires) in
     rw (← c.self.view_is)
     (cancelled_is inside.fixed inside.closures inside.clock callsign es c.move_index.new.self.entries
-    c.in-Some.place found.0 c.self.invariant.keyed c.get_index_of.ensures.unique (c.in-Some.ensures.value ∙ looked_up callsign es c.self.invariant.keyed ∙ found.1)
-    (found_named callsign _ found.0 found.1) (c.move_index.ensures.entries ∙ ap (λ n. move_index es c.in-Some.place (n - 1)) c.len-last.ensures.len))
+    c.in-Some.place found.0 c.self.invariant.keyed c.get_index_of.ensures.unique
+    (c.in-Some.ensures.value ∙ looked_up callsign es c.self.invariant.keyed ∙ found.1)
+    (found_named callsign _ found.0 found.1)
+    (c.move_index.ensures.entries ∙ ap (λ n. move_index es c.in-Some.place (n - 1)) c.len-last.ensures.len))

@@ -15,7 +15,8 @@ opens : (c : After-count_listed) → c.count_listed.new.self ≡ opened c.args.a
 opens c =
     let a = c.args.aerodrome.now in
     let frozen = c.freeze_listed.ensures ∙ (λ j. seconds_on (c.entries.ensures j) ((c.with-situation.ensures.value
-    ∙ ap (λ l. record (opened a []) { active = values_of l }) c.in_ok-active.ensures) j)) in grind (arith, all_opened a c.args.flights.now)
+    ∙ ap (λ l. record (opened a []) { active = values_of l }) c.in_ok-active.ensures) j)) in grind
+    (arith, all_opened a c.args.flights.now)
 
 pub returns-clause-value : goal.returns-clause-value
 returns-clause-value c = opens c
