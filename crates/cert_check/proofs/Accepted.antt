@@ -1,15 +1,14 @@
 -- What an accepted certificate means.
-use Rattle.std.proofs.Common.{◌≡◌, ℕ, ◌≤◌, inl, inr, Bool, true, false, cond, List, [], ◌∷◌, length, Option, Some}
-use Rattle.std.proofs.Common.{None, refl, ap, subst, arith}
-use Rattle.std.specs.Prelude.{◌==◌, option_map}
+use Rattle.std.proofs.Common.{rules}
+use Rattle.std.proofs.Common.{◌≡◌, ℕ, ◌≤◌, Bool, true, false, cond, List, [], ◌∷◌, length, Option, Some}
+use Rattle.std.proofs.Common.{None, refl, subst}
+use Rattle.std.specs.Prelude.{◌==◌}
 use Rattle.std.specs.Option.{option_or}
 use Rattle.std.proofs.lemmas.List.{length-map}
-use Rattle.std.proofs.lemmas.Bool.{cases_eq, eqb-true, eq-eqb}
 use Rattle.landing_rules.specs.Flights.{Schedule}
 use Rattle.landing_rules.specs.Problem.{Problem, IsFeasibleList, list_objective}
-use Rattle.cps_theory.specs.RankLists.{of_rank}
-use Rattle.cps_theory.specs.FirstFound.{first_from, first_pair_from, with_number, element_from}
-use Rattle.cps_theory.specs.laws.FirstFound.{or_none, with_number_none}
+use Rattle.cps_theory.specs.FirstFound.{first_from, first_pair_from, element_from}
+use Rattle.cps_theory.specs.laws.FirstFound.{or_none}
 use Rattle.landing_joint.specs.shared.RankedLists.{list_feasible, feasible_list}
 use Rattle.landing_joint.specs.shared.BestLists.{list_value}
 use Rattle.cps_problem.specs.WellFormed.{IsWellFormed}
@@ -18,18 +17,16 @@ use Rattle.certificate.specs.declared.certificate.Claim.TheVariants as claim
 use Rattle.certificate.specs.States.{State}
 use Rattle.certificate.specs.Reading.{Cert}
 use Rattle.cert_check.specs.declared.verdict.Reason.{Reason}
-use Rattle.cert_check.specs.declared.verdict.Reason.TheVariants.{Flights, Closed, Early, Separation, Precedence, Shift}
-use Rattle.cert_check.specs.declared.verdict.Reason.TheVariants.{Value, Shape, Successor, Final}
 use Rattle.cert_check.specs.declared.verdict.Verdict.TheVariants as verdict
-use Rattle.cert_check.specs.Landings.{Landings, count, second_of, seconds, are_not_flights, is_shut, is_early}
+use Rattle.cert_check.specs.Landings.{Landings, count, second_of, seconds, is_shut, is_early}
 use Rattle.cert_check.specs.Landings.{first_too_close, first_out_of_order, is_shifted}
-use Rattle.cert_check.specs.States.{first_missed, missed_from, start_node, successor_failure, shape_failure, is_final}
+use Rattle.cert_check.specs.States.{first_missed, missed_from, start_node, is_final}
 use Rattle.cert_check.specs.States.{final_failure}
-use Rattle.cert_check.specs.Verdict.{with_pair, flights_reason, value_reason, landing_reason, claim_reason}
+use Rattle.cert_check.specs.Verdict.{with_pair, flights_reason, landing_reason, claim_reason}
 use Rattle.cert_check.specs.Verdict.{state_reason, failure, verdict_by, verdict_of}
 use Rattle.cert_check.specs.Meaning.{IsShownOptimal, NothingIsFeasible}
 use Rattle.cert_check.proofs.Bounds.{none_below, none_at_all}
-use Rattle.cert_check.proofs.Sound.{map_none, are_its_landings, are_feasible, passed_low}
+use Rattle.cert_check.proofs.Sound.{are_its_landings, are_feasible, passed_low}
 
 pair_none : {A : Type 0} (f : ℕ → ℕ → A) (o : Option (ℕ × ℕ)) → with_pair f o ≡ None → o ≡ None
 pair_none f None e = refl
@@ -51,17 +48,7 @@ record StatesHold (p : Problem) (c : Claim) (ss : List State) : Type 0 where
 
 states_hold : (p : Problem) (c : Claim) (ss : List State) → state_reason p c ss ≡ None → StatesHold p c ss
 unfolding state_reason
-states_hold p c ss e =
-    let a = or_none (option_map Shape (shape_failure p ss)) _ e in
-    let b = or_none (with_pair Successor (successor_failure p ss)) (option_map Final (final_failure p c ss)) a.1 in
-    let s = or_none (with_number 0 (first_missed p ss (start_node p) ((0, 0) ∷ []))) (missed_from p ss 1 ss)
-    (pair_none Successor (successor_failure p ss) b.0) in
-    record {
-      from_start = with_number_none 0 (first_missed p ss (start_node p) ((0, 0) ∷ [])) s.0;
-      from_states =
-          s.1;
-      final = map_none Final (final_failure p c ss) b.1;
-    }
+states_hold p c ss e = search rules
 
 -- what the landings leave
 record LandingsHold (p : Problem) (v : ℕ) (ls : Landings) : Type 0 where
@@ -74,41 +61,19 @@ record LandingsHold (p : Problem) (v : ℕ) (ls : Landings) : Type 0 where
 
 landings_hold : (p : Problem) (v : ℕ) (ls : Landings) → landing_reason p v ls ≡ None → LandingsHold p v ls
 unfolding landing_reason
-landings_hold p v ls e =
-    let a = or_none (option_map Closed (first_from (is_shut p ls) 1 (count p))) _ e in
-    let b = or_none (option_map Early (first_from (is_early p ls) 1 (count p))) _ a.1 in
-    let c = or_none (with_pair Separation (first_pair_from (first_too_close p ls) 1 (count p))) _ b.1 in
-    let d = or_none (with_pair Precedence (first_pair_from (first_out_of_order p ls) 1 (count p))) _ c.1 in
-    let f = or_none (option_map Shift (first_from (is_shifted p ls) 1 (count p))) (value_reason p v ls) d.1 in
-    record {
-      shut = map_none Closed _ a.0;
-      early = map_none Early _ b.0;
-      close = pair_none Separation _ c.0;
-      order = pair_none Precedence _ d.0;
-      shifted = map_none Shift _ f.0;
-      value = eqb-true (list_objective p (seconds p ls)) v
-          (when_none (list_objective p (seconds p ls) == v) (Value (list_objective p (seconds p ls))) f.1);
-    }
+landings_hold p v ls e = search rules
 
 -- with no flight there is one list
 only_list : (p : Problem) (u w : Schedule) → count p ≡ 0 → length u ≡ count p → length w ≡ count p
     → list_objective p u ≡ list_objective p w
 only_list p [] [] none a b = refl
-only_list p [] (y ∷ w) none a b = absurd (omega arith)
-only_list p (x ∷ u) w none a b = absurd (omega arith)
+only_list p [] (y ∷ w) none a b = cc
+only_list p (x ∷ u) w none a b = cc
 
 no_smaller : (p : Problem) (v : ℕ) (ls : Landings) (ss : List State) → IsWellFormed p
     → StatesHold p (claim.Optimal v) ss → list_objective p (seconds p ls) ≡ v → (u : Schedule)
     → IsFeasibleList p u → list_objective p (seconds p ls) ≤ list_objective p u
-no_smaller p v ls ss h s value u f = elim (cases_eq (count p) 0) [
-  | inl none ↦ (let same = only_list p u (seconds p ls) none f.one_each
-      (length-map p.flights (λ w. second_of ls w.callsign)) in omega arith)
-  | inr some ↦
-      (let least = none_below p h ss s.from_start s.from_states (omega arith) v s.final (of_rank 0 u)
-      (list_feasible p u f) in
-      let is = list_value p u f.one_each in
-      omega arith)
-]
+no_smaller p v ls ss h s value u f = search (rules, none_below, list_feasible, list_value)
 
 optimal : (p : Problem) (v : ℕ) (ls : Landings) (ss : List State) → IsWellFormed p
     → failure p (record { claim = claim.Optimal v; landings = ls; states = ss }) ≡ None → IsShownOptimal p ls v
@@ -119,41 +84,29 @@ optimal p v ls ss h e =
     let b = or_none (claim_reason p (claim.Optimal v) ls) (state_reason p (claim.Optimal v) ss) a.1 in
     let k = landings_hold p v ls b.0 in
     let s = states_hold p (claim.Optimal v) ss b.1 in
-    let long = length-map p.flights (λ w. second_of ls w.callsign) in
-    record {
-      landings = are_its_landings p ls v (unless_none (are_not_flights p (claim.Optimal v) ls) Flights a.0);
-      best = record {
-        feasible = feasible_list p (passed_low p h) (seconds p ls) long
-            (are_feasible p ls h k.shut k.early k.close k.order k.shifted);
-        least = no_smaller p v ls ss h s k.value;
-      };
-      value = k.value;
-    }
+    let long = length-map p.flights (λ w. second_of ls w.callsign) in search
+    (rules, are_its_landings, unless_none, feasible_list, passed_low, are_feasible, no_smaller)
 
 infeasible : (p : Problem) (ls : Landings) (ss : List State) → IsWellFormed p
     → failure p (record { claim = claim.Infeasible; landings = ls; states = ss }) ≡ None → NothingIsFeasible p
 unfolding failure
 infeasible p ls ss h e t f =
-    let a = or_none (flights_reason p claim.Infeasible ls)
-    (option_or (claim_reason p claim.Infeasible ls) (state_reason p claim.Infeasible ss)) e in
-    let b = or_none (claim_reason p claim.Infeasible ls) (state_reason p claim.Infeasible ss) a.1 in
+    let b = or_none (claim_reason p claim.Infeasible ls) (state_reason p claim.Infeasible ss)
+    (or_none (flights_reason p claim.Infeasible ls)
+    (option_or (claim_reason p claim.Infeasible ls) (state_reason p claim.Infeasible ss)) e).1 in
     let s = states_hold p claim.Infeasible ss b.1 in
     go (count p == 0) refl s.final s
   where
     go : (b : Bool) → (count p == 0) ≡ b → cond b (Some 0) (element_from (is_final p) 1 ss) ≡ None
         → StatesHold p claim.Infeasible ss → ⊥
     go true z e s = absurd (cc)
-    go false z e s =
-        elim (cases_eq (count p) 0) [
-          | inl none ↦ absurd (let y = eq-eqb (count p) 0 none in cc)
-          | inr some ↦ none_at_all p h ss s.from_start s.from_states (omega arith) e (of_rank 0 t) (list_feasible p t f)
-        ]
+    go false z e s = search (rules, none_at_all, list_feasible)
 
 -- ---- by the verdict
 
 by_optimal : (c : Claim) (o : Option Reason) (v : ℕ) → verdict_by c o ≡ verdict.Optimal v
     → (c ≡ claim.Optimal v) × (o ≡ None)
-by_optimal (claim.Optimal w) None v e = (let s : w ≡ v = cc in ap claim.Optimal s, refl)
+by_optimal (claim.Optimal w) None v e = search rules
 by_optimal claim.Infeasible None v e = absurd (cc)
 by_optimal (claim.Optimal w) (Some r) v e = absurd (cc)
 by_optimal claim.Infeasible (Some r) v e = absurd (cc)

@@ -1,5 +1,6 @@
 -- Where the states miss no successor, no feasible schedule is below them, and where none is final, nothing is feasible.
-use Rattle.std.proofs.Common.{◌≡◌, ℕ, zero, suc, ◌≤◌, inl, inr, true, List, [], ◌∷◌, None, ap, subst, le_refl, arith}
+use Rattle.std.proofs.Common.{rules}
+use Rattle.std.proofs.Common.{◌≡◌, ℕ, zero, suc, ◌≤◌, inl, inr, true, List, [], ◌∷◌, None, subst, arith}
 use Rattle.landing_rules.specs.Problem.{Problem}
 use Rattle.cps_theory.specs.Separation.{Landing}
 use Rattle.cps_theory.specs.Retiming.{NeverEarlier}
@@ -29,22 +30,17 @@ module _ (p : Problem) where
   opens r u = (ranked p).is_open r u ≡ true
 
   ready_later : NeverEarlier (ready p)
-  ready_later = record { mono = mono }
-    where
-      mono : (l t u r : ℕ) → t ≤ u → ready p l t r ≤ ready p l u r
-      mono zero t u r le = le_refl ((ranked p).start r)
-      mono (suc l) t u r le = omega arith
+  ready_later = search rules
 
   -- what a landing keeps, a successor keeps
   ready_low : (l u r : ℕ) → ready p l u r ≤ next_from (ranked p) l u r
-  ready_low zero u r = le_refl ((ranked p).start r)
+  ready_low zero u r = omega arith
   ready_low (suc l) u r = omega arith
 
   landed_behind : (xs : List Landing) → Landed opens (next_from (ranked p)) xs → Landed opens (ready p) xs
   landed_behind [] h = tt
   landed_behind (x ∷ xs) h =
       let a = ready_low (latest_landing xs).0 (latest_landing xs).1 x.0 in
-      let b = h.1 in
       (h.0, omega arith, landed_behind xs h.2)
 
   module _ (well : IsWellFormed p) (ss : List State)
@@ -55,14 +51,14 @@ module _ (p : Problem) where
 
     closed : ClosedNodes (first_at p) (ready p) (cost_at p) (PatternPermits (rules_of p))
         (pattern_push (rules_of p)) pattern_newest (pattern_node (rules_of p) []) lists
-    closed = closure_closed node_of pairs_of (rules_of p) (first_at p) (ready p) (cost_at p) ss from_start from_states
+    closed = search (rules, closure_closed)
 
     ones : (a r : ℕ) → (rules_of p).before a r ≡ true → 1 ≤ a
-    ones a r b = (well.between_ranks a r b).0
+    ones a r b = search rules
 
     not_start : (w : PatternNode) (q : Pair) → 1 ≤ count p → w.0 ≡ count p → (w ≡ pattern_node (rules_of p) [])
         × (q ≡ (0, 0)) → ⊥
-    not_start w q some at s = let z = ap (λ (d : PatternNode). d.0) s.0 in absurd (omega arith)
+    not_start w q some at s = search rules
 
     pub none_below : 1 ≤ count p → (v : ℕ) → element_from (is_final_below p v) 1 ss ≡ None
         → (t : ℕ → ℕ) → Feasible (ranked p) t → v ≤ value_at p (second_and_cost (cost_at p) (count p) t)

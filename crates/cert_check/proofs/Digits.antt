@@ -1,14 +1,14 @@
 -- Digits as the bits of a number, one more at the front.
-use Rattle.std.proofs.Common.{◌≡◌, ℕ, zero, suc, ◌+◌, ◌*◌, ◌≤◌, ◌^◌, Bool, true, false, cond, List, ◌∷◌, sym, ap, ap₂}
-use Rattle.std.proofs.Common.{◌∙◌, arith}
+use Rattle.std.proofs.Common.{rules}
+use Rattle.std.proofs.lemmas.Grind.{common_steps}
+use Rattle.std.proofs.Common.{◌≡◌, ℕ, zero, suc, ◌+◌, ◌*◌, ◌≤◌, ◌^◌, Bool, true, false, cond, ◌∷◌}
+use Rattle.std.proofs.Common.{arith}
 use Rattle.std.specs.Prelude.{◌/◌, ◌%◌, ◌==◌}
-use Rattle.std.proofs.Math.Nat.{pow-succ'}
-use Rattle.std.proofs.lemmas.Bool.{eq-eqb, ne_eqb}
 use Rattle.certificate.specs.Patterns.{bits}
 use Rattle.cps_theory.specs.Patterns.{tests_from}
 
 pub power_more : (i : ℕ) → 2 ^ (i + 1) ≡ 2 * 2 ^ i
-power_more i = let e : i + 1 ≡ suc i = omega arith in ap (λ j. 2 ^ j) e ∙ pow-succ' 2 i
+power_more i = grind (arith, common_steps)
 
 pub power_small : (i : ℕ) → i ≤ 5 → 2 ^ i ≤ 32
 power_small zero h = omega arith
@@ -20,22 +20,17 @@ power_small (suc (suc (suc (suc (suc zero))))) h = omega arith
 power_small (suc (suc (suc (suc (suc (suc i)))))) h = absurd (omega arith)
 
 bit : (n : ℕ) (b : Bool) → (2 * n + cond b 1 0) % 2 == 1 ≡ b
-bit n true = eq-eqb ((2 * n + 1) % 2) 1 (omega arith)
-bit n false = ne_eqb ((2 * n + 0) % 2) 1 (λ e. omega arith)
+bit n true = search rules
+bit n false = search rules
 
 half : (n : ℕ) (b : Bool) → (2 * n + cond b 1 0) / 2 ≡ n
 half n true = omega arith
 half n false = omega arith
 
 more_bits : (i n : ℕ) (b : Bool) → bits (i + 1) (2 * n + cond b 1 0) ≡ b ∷ bits i n
-more_bits i n b =
-    let e : i + 1 ≡ suc i = omega arith in
-    ap (λ j. bits j (2 * n + cond b 1 0)) e ∙ ap₂ (λ (c : Bool) (m : ℕ). c ∷ bits i m) (bit n b) (half n b)
+more_bits i n b = search rules
 
 -- one more digit before those from y on
 pub more_digits : (t : ℕ → Bool) (i y z n : ℕ) (b : Bool) → bits i n ≡ tests_from t z i → z ≡ suc y
     → b ≡ t y → bits (i + 1) (2 * n + cond b 1 0) ≡ tests_from t y (i + 1)
-more_digits t i y z n b h next is =
-    let e : i + 1 ≡ suc i = omega arith in
-    more_bits i n b ∙ ap₂ (λ (c : Bool) (ds : List Bool). c ∷ ds) is (h ∙ ap (λ x. tests_from t x i) next)
-    ∙ sym (ap (tests_from t y) e)
+more_digits t i y z n b h next is = search rules

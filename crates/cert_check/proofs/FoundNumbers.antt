@@ -1,4 +1,5 @@
 -- The number of the first element that passes, where the front has number 1.
+use Rattle.std.proofs.Common.{rules}
 use Rattle.std.proofs.Common.{◌≡◌, ℕ, ◌+◌, ◌<◌, Bool, List, [], ◌∷◌, length, Option, Some, None, refl, ap, ◌∙◌, arith}
 use Rattle.std.specs.Prelude.{option_map, position, IfSome}
 use Rattle.std.specs.Option.{MatchOption, IsSomeAnd}
@@ -17,7 +18,7 @@ one_more : {Q : ℕ → ℕ → Type 0} (p m : Option ℕ) (end : ℕ) → IfSom
     → m ≡ option_map (λ n. n + 1) p
 one_more None m end b h next = h
 one_more (Some i) None end b h next = absurd h
-one_more (Some i) (Some n) end b h next = ap Some (next i n b h)
+one_more (Some i) (Some n) end b h next = search rules
 
 pub number_found : {S : Type 0} {Q : ℕ → ℕ → Type 0} (test : S → Bool) (xs : List S) (p m : Option ℕ)
     → p ≡ position test xs → IfSome p (λ i. i < length xs)

@@ -74,6 +74,6 @@ module _ (p : Problem) (xs : List ℕ) (same : must_precede xs ≡ must_precede 
 
 pub one_states : OneStatesLaw
 one_states s p q ss ts h k wp wq =
-    let moved : AreWholeStates (with_pairs q p.pairs) ss =
-    subst (λ (x : Problem). AreWholeStates x ss) (same_but_pairs s p q h k) wp in
-    whole_is_unique q ss ts (states_there q p.pairs (same_order s p q h k) ss moved) wq
+    whole_is_unique q ss ts
+    (states_there q p.pairs (same_order s p q h k) ss
+    (subst (λ (x : Problem). AreWholeStates x ss) (same_but_pairs s p q h k) wp)) wq

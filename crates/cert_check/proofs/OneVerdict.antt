@@ -1,15 +1,15 @@
 -- The verdict on a certificate is one for a situation.
+use Rattle.std.proofs.Common.{rules}
 use Rattle.std.proofs.Common.{◌≡◌, ℕ, List, [], ◌∷◌, length, Option, Some, None, Bool, not, ◌&&◌, ◌-◌, refl, ap, ap₂}
 use Rattle.std.proofs.Common.{◌∙◌}
 use Rattle.std.specs.Prelude.{◌==◌, nat_lt, option_map, if◌then◌else◌}
 use Rattle.std.specs.Option.{option_or}
-use Rattle.std.proofs.Math.Path.{fun_ext}
 use Rattle.precedence.specs.Pairs.{must_precede}
 use Rattle.landing_rules.specs.declared.objective.Objective.{Objective}
 use Rattle.landing_rules.specs.declared.objective.Objective.TheVariants.{Makespan, Delay}
 use Rattle.landing_rules.specs.Flights.{Schedule}
 use Rattle.landing_rules.specs.Problem.{Problem, Waiting, list_cost}
-use Rattle.cps_theory.specs.FirstFound.{element_from, first_from, first_pair_from, with_number}
+use Rattle.cps_theory.specs.FirstFound.{first_from, first_pair_from, with_number}
 use Rattle.cps_theory.specs.Labels.{Pair}
 use Rattle.cps_theory.specs.LegalPrefix.{OrderRules}
 use Rattle.cps_theory.specs.Patterns.{pattern_node}
@@ -27,7 +27,7 @@ use Rattle.cert_check.specs.Landings.{Landings, count, second, seconds, is_shut,
 use Rattle.cert_check.specs.Situations.{OneVerdictLaw}
 use Rattle.cert_check.specs.States.{node_of, pairs_of, ready, shape_failure, final_failure}
 use Rattle.cert_check.specs.Verdict.{with_pair, flights_reason, claim_reason, landing_reason, state_reason, failure}
-use Rattle.cert_check.specs.Verdict.{verdict_by, verdict_of}
+use Rattle.cert_check.specs.Verdict.{verdict_of}
 use Rattle.cps_problem.specs.shared.OneProblem.{same_but_pairs, same_order, with_pairs}
 
 -- a verdict looks at the pairs by whether a rank must land before another, and in no other way
@@ -45,7 +45,7 @@ module _ (p : Problem) (xs : List ℕ) (same : must_precede xs ≡ must_precede 
   same_makespan (f ∷ fs) t = refl
 
   same_value : (o : Objective) (x : Pair) → value_by o q x ≡ value_by o p x
-  same_value Makespan x = same_makespan p.flights x.0
+  same_value Makespan x = search rules
   same_value Delay x = refl
 
   same_listed : (c : Claim) (ls : Landings) → flights_reason q c ls ≡ flights_reason p c ls
@@ -73,9 +73,7 @@ module _ (p : Problem) (xs : List ℕ) (same : must_precede xs ≡ must_precede 
   same_claims claim.Infeasible ls = refl
 
   same_final : (c : Claim) (ss : List State) → final_failure q c ss ≡ final_failure p c ss
-  same_final (claim.Optimal v) ss =
-      ap (λ (value : Pair → ℕ). element_from (closure.is_final_below node_of pairs_of (count p) value v) 1 ss)
-      (fun_ext (same_value p.objective))
+  same_final (claim.Optimal v) ss = search rules
   same_final claim.Infeasible ss = refl
 
   -- the rules of an order, by that test
@@ -100,19 +98,15 @@ module _ (p : Problem) (xs : List ℕ) (same : must_precede xs ≡ must_precede 
 
   same_states : (c : Claim) (ss : List State) → state_reason q c ss ≡ state_reason p c ss
   unfolding state_reason
-  same_states c ss = ap₂ (state_by ss) (ap rules_by same) (same_final c ss)
+  same_states c ss = cc (same_final c ss)
 
   same_failure : (c : Cert) → failure q c ≡ failure p c
   unfolding failure
-  same_failure c =
-      ap₂ (λ (a b : Option Reason). option_or a (option_or b (state_reason q c.claim c.states)))
-      (same_listed c.claim c.landings) (same_claims c.claim c.landings)
-      ∙ ap (λ (b : Option Reason). option_or (flights_reason p c.claim c.landings)
-      (option_or (claim_reason p c.claim c.landings) b)) (same_states c.claim c.states)
+  same_failure c = simp (same_claims, same_states)
 
   pub same_verdict : (c : Cert) → verdict_of q c ≡ verdict_of p c
   unfolding verdict_of
-  same_verdict c = ap (verdict_by c.claim) (same_failure c)
+  same_verdict c = cc (same_failure c)
 
 pub one_verdict : OneVerdictLaw
 one_verdict s p q c h k = ap (λ (x : Problem). verdict_of x c) (same_but_pairs s p q h k)

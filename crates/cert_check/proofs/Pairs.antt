@@ -1,9 +1,9 @@
 -- Of pairs whose seconds rise and whose costs fall, the last that is no later is the cheapest.
+use Rattle.std.proofs.Common.{rules}
 use Rattle.std.proofs.Common.{◌≡◌, ℕ, zero, suc, ◌<◌, ◌≤◌, Bool, true, false, ◌&&◌, ◌||◌, leb, List, [], ◌∷◌, length}
-use Rattle.std.proofs.Common.{get_or, refl, sym, ap, ap₂, ◌∙◌, arith, inl, inr}
+use Rattle.std.proofs.Common.{get_or, refl, ap₂, arith}
 use Rattle.std.specs.List.{list_any}
-use Rattle.std.proofs.lemmas.Bool.{cases_lt, le-leb, lt-leb, ltb-true, and_left, and_parts}
-use Rattle.std.proofs.Math.Bool.{or-false}
+use Rattle.std.proofs.lemmas.Bool.{ltb-true, and_left, and_parts}
 use Rattle.cps_theory.specs.Labels.{Pair, no_worse}
 use Rattle.certificate.specs.States.{rises}
 
@@ -15,22 +15,18 @@ rest_rises p (q ∷ ps) h = (and_parts _ _ h).1
 behind : (p : Pair) (ps : List Pair) → rises (p ∷ ps) ≡ true → (k : ℕ) (d : Pair) → k < length ps
     → (p.0 < (get_or ps k d).0) × ((get_or ps k d).1 < p.1)
 behind p [] h k d lt = absurd (omega arith)
-behind p (q ∷ ps) h zero d lt = let t = and_parts _ _ (and_parts _ _ h).0 in
-    (ltb-true p.0 q.0 t.0, ltb-true q.1 p.1 t.1)
+behind p (q ∷ ps) h zero d lt = search rules
 behind p (q ∷ ps) h (suc k) d lt =
     let t = and_parts _ _ (and_parts _ _ h).0 in
     let a = ltb-true p.0 q.0 t.0 in
     let b = ltb-true q.1 p.1 t.1 in
-    let m = behind q ps (and_parts _ _ h).1 k d (omega arith) in
-    let x = m.0 in
-    let y = m.1 in
-    (omega arith, omega arith)
+    let m = behind q ps (and_parts _ _ h).1 k d (omega arith) in omega arith
 
 pub seconds_rise : (ps : List Pair) → rises ps ≡ true → (i j : ℕ) (d : Pair) → i ≤ j → j < length ps
     → (get_or ps i d).0 ≤ (get_or ps j d).0
 seconds_rise [] h i j d le lt = absurd (omega arith)
 seconds_rise (p ∷ ps) h zero zero d le lt = omega arith
-seconds_rise (p ∷ ps) h zero (suc j) d le lt = let m = (behind p ps h j d (omega arith)).0 in omega arith
+seconds_rise (p ∷ ps) h zero (suc j) d le lt = search (rules, behind)
 seconds_rise (p ∷ ps) h (suc i) zero d le lt = absurd (omega arith)
 seconds_rise (p ∷ ps) h (suc i) (suc j) d le lt = seconds_rise ps (rest_rises p ps h) i j d (omega arith) (omega arith)
 
@@ -40,10 +36,7 @@ and_yes false b e = absurd cc
 
 -- a cheaper one behind decides
 or_cheaper : (a b c : ℕ) → b < a → leb a c || leb b c ≡ leb b c
-or_cheaper a b c lt = elim (cases_lt c a) [
-  | inl less ↦ ap (λ (x : Bool). x || leb b c) (lt-leb a c less)
-  | inr le ↦ ap₂ (λ (x y : Bool). x || y) (le-leb a c le) refl ∙ sym (le-leb b c (omega arith))
-]
+or_cheaper a b c lt = search rules
 
 -- where all are later, none is no worse
 pub all_later : (ps : List Pair) (q : Pair) → ((k : ℕ) (d : Pair) → k < length ps → leb (get_or ps k d).0 q.0 ≡ false)
@@ -61,10 +54,7 @@ pub last_decides : (ps : List Pair) → rises ps ≡ true → (q : Pair) (m : �
 last_decides [] h q m le low high d = absurd (omega arith)
 last_decides (p ∷ ps) h q zero le low high d =
     let here = and_yes (leb p.0 q.0) (leb p.1 q.1) (low zero d (omega arith)) in
-    let rest = all_later ps q (λ k e lt. high (suc k) e (omega arith) (omega arith)) in
-    ap₂ (λ (x y : Bool). x || y) here rest ∙ or-false (leb p.1 q.1)
+    let rest = all_later ps q (λ k e lt. high (suc k) e (omega arith) (omega arith)) in search rules
 last_decides (p ∷ ps) h q (suc m) le low high d =
-    let here = and_yes (leb p.0 q.0) (leb p.1 q.1) (low zero d (omega arith)) in
     let rest = last_decides ps (rest_rises p ps h) q m (omega arith) (λ k e lt. low (suc k) e (omega arith))
-    (λ k e le lt. high (suc k) e (omega arith) (omega arith)) d in
-    ap₂ (λ (x y : Bool). x || y) here rest ∙ or_cheaper p.1 (get_or ps m d).1 q.1 (behind p ps h m d (omega arith)).1
+    (λ k e le lt. high (suc k) e (omega arith) (omega arith)) d in search (rules, behind)

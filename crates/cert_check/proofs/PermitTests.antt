@@ -1,8 +1,9 @@
 -- A rank that passes the test may come next.
-use Rattle.std.proofs.Common.{◌≡◌, ℕ, suc, ◌+◌, ◌-◌, ◌≤◌, ◌⊎◌, inl, inr, Bool, true, false, not, ◌||◌, leb, eqb}
-use Rattle.std.proofs.Common.{get_or, Option, Some, None, refl, sym, ap, ◌∙◌, arith}
+use Rattle.std.proofs.Common.{rules}
+use Rattle.std.proofs.Common.{◌≡◌, ℕ, suc, ◌+◌, ◌≤◌, ◌⊎◌, inl, inr, true, false}
+use Rattle.std.proofs.Common.{Option, Some, None, refl, arith}
 use Rattle.std.specs.Prelude.{is_none}
-use Rattle.std.proofs.lemmas.Bool.{leb-true, le-leb, eqb-true, or_cases, or_left, or_right, and_from, and_parts}
+use Rattle.std.proofs.lemmas.Bool.{leb-true, or_right, and_parts}
 use Rattle.std.proofs.lemmas.Bool.{not-true, both_ways}
 use Rattle.cps_theory.specs.RankLists.{IsRank}
 use Rattle.cps_theory.specs.FirstFound.{first_from}
@@ -19,40 +20,21 @@ none_is (Some x) e = absurd (cc)
 module _ (g : OrderRules) where
   placed_by : (w : PatternNode) (x : ℕ) → is_placed_by_pattern g.most w x ≡ true → IsPlacedByPattern g w x
   unfolding is_placed_by_pattern
-  placed_by w x e = elim (or_cases (leb (x + g.most) w.0) (get_or w.1 (x + g.most - suc w.0) false) e) [
-    | inl le ↦
-        inl (leb-true (x + g.most) w.0 le)
-    | inr d ↦ inr d
-  ]
+  placed_by w x e = search rules
 
   by_placed : (w : PatternNode) (x : ℕ) → IsPlacedByPattern g w x → is_placed_by_pattern g.most w x ≡ true
   unfolding is_placed_by_pattern
-  by_placed w x (inl le) = or_left (leb (x + g.most) w.0) (get_or w.1 (x + g.most - suc w.0) false)
-      (le-leb (x + g.most) w.0 le)
+  by_placed w x (inl le) = search rules
   by_placed w x (inr d) = or_right _ _ d
 
   due_from : (w : PatternNode) (r : ℕ) → leaves_none_due g w r ≡ true → (x : ℕ) → 1 ≤ x → x + g.most ≡ suc w.0
       → (x ≡ r) ⊎ IsPlacedByPattern g w x
-  due_from w r e x one at =
-      let is : suc w.0 - g.most ≡ x = omega arith in
-      elim (or_cases (leb (suc w.0) g.most) (eqb (suc w.0 - g.most) r
-      || is_placed_by_pattern g.most w (suc w.0 - g.most)) e) [
-        | inl below ↦ absurd (let b = leb-true (suc w.0) g.most below in omega arith)
-        | inr t ↦ elim (or_cases (eqb (suc w.0 - g.most) r) (is_placed_by_pattern g.most w (suc w.0 - g.most)) t) [
-          | inl same ↦ inl (let s = eqb-true (suc w.0 - g.most) r same in omega arith)
-          | inr placed ↦ inr (placed_by w x (ap (is_placed_by_pattern g.most w) (sym is) ∙ placed))
-        ]
-      ]
+  due_from w r e x one at = search (rules, placed_by)
 
   -- what stands before r is placed
   pred_from : (w : PatternNode) (r a : ℕ) → is_missing_predecessor g w r a ≡ false → g.before a r ≡ true
       → IsPlacedByPattern g w a
-  pred_from w r a e b = go (is_placed_by_pattern g.most w a) refl
-    where
-      go : (t : Bool) → is_placed_by_pattern g.most w a ≡ t → IsPlacedByPattern g w a
-      go true s = placed_by w a s
-      go false s = absurd (let f = and_from (g.before a r) (not (is_placed_by_pattern g.most w a)) b (ap not s) in
-          both_ways (is_missing_predecessor g w r a) e f)
+  pred_from w r a e b = search (rules, placed_by)
 
   pub permits_from : ((a r : ℕ) → g.before a r ≡ true → IsRank g.count a) → (w : PatternNode) (r : ℕ)
       → IsRank g.count r → permits_next g w r ≡ true → PatternPermits g w r

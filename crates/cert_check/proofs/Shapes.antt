@@ -1,16 +1,11 @@
 -- What the shape of a state says of its last rank.
-use Rattle.std.proofs.Common.{◌≡◌, ◌≤◌, true, false}
-use Rattle.std.proofs.lemmas.Bool.{leb-true, and_parts, not-false}
+use Rattle.std.proofs.Common.{rules}
+use Rattle.std.proofs.Common.{◌≡◌, ◌≤◌, false}
 use Rattle.landing_rules.specs.Problem.{Problem}
 use Rattle.certificate.specs.States.{State}
 use Rattle.cert_check.specs.Landings.{count}
-use Rattle.cert_check.specs.States.{node_of, is_shaped, is_misshapen}
+use Rattle.cert_check.specs.States.{is_shaped, is_misshapen}
 
 pub last_is_rank : (p : Problem) (s : State) → is_misshapen p s ≡ false → s.last ≤ count p
 unfolding is_shaped
-last_is_rank p s e =
-    let h : is_shaped p.k (count p) (node_of s) ≡ true = not-false (is_shaped p.k (count p) (node_of s)) e in
-    let a = and_parts _ _ h in
-    let b = and_parts _ _ a.0 in
-    let c = and_parts _ _ b.0 in
-    leb-true s.last (count p) c.1
+last_is_rank p s e = search rules

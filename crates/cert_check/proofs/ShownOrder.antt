@@ -1,13 +1,14 @@
 -- The landings of a best list in an order of all ranks are shown optimal.
+use Rattle.std.proofs.Common.{rules}
+use Rattle.std.proofs.lemmas.Grind.{common_steps}
 use Rattle.std.proofs.Common.{◌≡◌, ◌≢◌, ℕ, zero, suc, ◌<◌, inl, inr, Bool, cond, eqb, List, [], ◌∷◌, length, reverse}
 use Rattle.std.proofs.Common.{refl, sym, ap, subst, ◌∙◌, arith}
 use Rattle.std.specs.Prelude.{All, bytes_eq, count_by}
-use Rattle.std.proofs.lemmas.Bool.{cases_eq, eq-eqb, ne_eqb, cases_order, false_from_ne_true}
+use Rattle.std.proofs.lemmas.Bool.{cases_eq, eq-eqb, ne_eqb}
 use Rattle.std.proofs.lemmas.List.{length-map, length-reverse, reverse-reverse, get_or-map}
 use Rattle.std.proofs.lemmas.Grind.{same_number_lists}
 use Rattle.std.proofs.lemmas.List.Sorted.{IsPermutation-reverse, sum_by-IsPermutation}
 use Rattle.std.proofs.lemmas.List.Sums.{sum_by-cons}
-use Rattle.std.proofs.lemmas.Slice.Eq.{bytes_eq-Decides}
 use Rattle.landing_rules.specs.Flights.{Schedule}
 use Rattle.landing_rules.specs.Problem.{Problem, IsBestList, list_objective}
 use Rattle.cps_theory.specs.RankLists.{Distinct, In, IsRank, of_rank}
@@ -34,16 +35,8 @@ none_of r (q ∷ rs) out =
 
 once_of : (r : ℕ) (rs : List ℕ) → Distinct rs → In r rs → count_by (λ q. eqb q r) rs ≡ 1
 once_of r [] d i = absurd i
-once_of r (q ∷ rs) d (inl e) =
-    let a = sum_by-cons (λ (x : ℕ). cond (eqb x r) 1 0) q rs in
-    let b = ap (λ (t : Bool). cond {A = ℕ} t 1 0) (eq-eqb q r (sym e)) in
-    let c = none_of r rs (λ i. d.0 (subst (λ (x : ℕ). In x rs) e i)) in
-    omega arith
-once_of r (q ∷ rs) d (inr i) =
-    let a = sum_by-cons (λ (x : ℕ). cond (eqb x r) 1 0) q rs in
-    let b = ap (λ (t : Bool). cond {A = ℕ} t 1 0) (ne_eqb q r (λ e. d.0 (subst (λ (x : ℕ). In x rs) (sym e) i))) in
-    let c = once_of r rs d.1 i in
-    omega arith
+once_of r (q ∷ rs) d (inl e) = grind (arith, common_steps, none_of)
+once_of r (q ∷ rs) d (inr i) = grind (arith, once_of r rs d.1 i)
 
 module _ (p : Problem) (well : IsWellFormed p) where
   name : ℕ → List ℕ
@@ -52,22 +45,15 @@ module _ (p : Problem) (well : IsWellFormed p) where
   -- callsigns tell the ranks apart
   lower_differs : (q r : ℕ) → IsRank (count p) q → IsRank (count p) r → q < r → name q ≢ name r
   unfolding name
-  lower_differs zero r a b lt = absurd (let x = a.0 in omega arith)
+  lower_differs zero r a b lt = omega arith
   lower_differs (suc i) zero a b lt = absurd (omega arith)
-  lower_differs (suc i) (suc j) a b lt = let y = b.1 in well.callsigns i j no_waiting (omega arith) (omega arith)
+  lower_differs (suc i) (suc j) a b lt = search rules
 
   differ : (q r : ℕ) → IsRank (count p) q → IsRank (count p) r → (q ≡ r → ⊥) → name q ≡ name r → ⊥
-  differ q r a b ne e = elim (cases_order q r) [
-    | inl same ↦ ne same
-    | inr o ↦ elim o [ inl lt ↦ lower_differs q r a b lt e | inr gt ↦ lower_differs r q b a gt (sym e) ]
-  ]
+  differ q r a b ne e = search (rules, lower_differs)
 
   same_name : (q r : ℕ) → IsRank (count p) q → IsRank (count p) r → bytes_eq (name q) (name r) ≡ eqb q r
-  same_name q r a b = elim (cases_eq q r) [
-    | inl e ↦ (bytes_eq-Decides (name q) (name r)).1 (ap name e) ∙ sym (eq-eqb q r e)
-    | inr ne ↦ false_from_ne_true (bytes_eq (name q) (name r))
-        (λ t. differ q r a b ne ((bytes_eq-Decides (name q) (name r)).0 t)) ∙ sym (ne_eqb q r ne)
-  ]
+  same_name q r a b = search (rules, differ)
 
   module _ (t : Schedule) (order : List ℕ) (as_many : length order ≡ count p) (ranks : All (IsRank (count p)) order)
       (distinct : Distinct (reverse order)) where
@@ -78,11 +64,10 @@ module _ (p : Problem) (well : IsWellFormed p) where
     is_rank r i = all_at (IsRank (count p)) order ranks r i
 
     back : (r : ℕ) → In r (reverse order) → In r order
-    back r i = subst (λ (rs : List ℕ). In r rs) (reverse-reverse order) (in_reverse (reverse order) r i)
+    back r i = search (rules, reverse-reverse, in_reverse)
 
     has_rank : (r : ℕ) → IsRank (count p) r → In r (reverse order)
-    has_rank r q = all_ranks (count p) (reverse order) distinct (λ x i. is_rank x (back x i))
-        (length-reverse order ∙ as_many) r q
+    has_rank r q = search (rules, all_ranks, is_rank, back, length-reverse)
 
     once : (r : ℕ) → IsRank (count p) r → count_by (λ l. bytes_eq l.0 (flight p r).callsign) ls ≡ 1
     unfolding ls name

@@ -1,16 +1,17 @@
 -- What the tests of the landings and of the states say where none of them finds anything.
-use Rattle.std.proofs.Common.{◌≡◌, ℕ, zero, suc, ◌+◌, ◌<◌, ◌≤◌, inl, inr, Bool, true, false, not, ◌&&◌, ◌||◌, leb, ltb}
+use Rattle.std.proofs.Common.{rules}
+use Rattle.std.proofs.Common.{◌≡◌, ℕ, zero, suc, ◌+◌, ◌<◌, ◌≤◌, inl, inr, Bool, true, false, not, ◌&&◌, ltb}
 use Rattle.std.proofs.Common.{length, Option, Some, None, refl, ap, ◌∙◌, arith}
 use Rattle.std.specs.Prelude.{◌==◌, bytes_eq, count_by, option_map, is_some}
 use Rattle.std.proofs.lemmas.List.{length-map}
-use Rattle.std.proofs.lemmas.Bool.{cases_lt, cases_eq, le-leb, lt-ltb, ltb-false, ltb-true, eqb-true, or_parts}
+use Rattle.std.proofs.lemmas.Bool.{cases_lt, cases_eq, ltb-false, ltb-true, eqb-true, or_parts}
 use Rattle.std.proofs.lemmas.Bool.{not-false}
 use Rattle.landing_rules.specs.Problem.{Problem}
 use Rattle.cps_theory.specs.RankLists.{IsRank, of_rank}
 use Rattle.cps_theory.specs.Feasible.{Feasible, SoundProblem}
 use Rattle.cps_theory.specs.FirstFound.{first_from, first_pair_from, with_number}
 use Rattle.cps_theory.specs.laws.FirstFound.{from_none, or_none, with_number_none}
-use Rattle.landing_joint.specs.RankedProblem.{no_waiting, ranked}
+use Rattle.landing_joint.specs.RankedProblem.{ranked}
 use Rattle.landing_joint.specs.shared.RankedLists.{place_is, sound_ranked}
 use Rattle.cps_problem.specs.WellFormed.{IsWellFormed}
 use Rattle.certificate.specs.declared.certificate.Claim.TheVariants.{Optimal}
@@ -46,12 +47,11 @@ pair_none find x (suc m) e y le lt =
 
 module _ (p : Problem) (ls : Landings) where
   at_rank : (test : ℕ → Bool) → first_from test 1 (count p) ≡ None → (r : ℕ) → IsRank (count p) r → test r ≡ false
-  at_rank test e r q = let a = q.1 in from_none test 1 (count p) e r q.0 (omega arith)
+  at_rank test e r q = from_none test 1 (count p) e r q.0 (omega arith)
 
   at_pair : (test : ℕ → ℕ → Bool) → first_pair_from (λ r. first_from (test r) 1 (count p)) 1 (count p) ≡ None
       → (r q : ℕ) → IsRank (count p) r → IsRank (count p) q → test r q ≡ false
-  at_pair test e r q ir iq = let a =
-      ir.1 in at_rank (test r) (pair_none (λ r. first_from (test r) 1 (count p)) 1 (count p) e r ir.0
+  at_pair test e r q ir iq = at_rank (test r) (pair_none (λ r. first_from (test r) 1 (count p)) 1 (count p) e r ir.0
       (omega arith)) q iq
 
   -- the landings are the flights'
@@ -69,14 +69,11 @@ module _ (p : Problem) (ls : Landings) where
 
   not_close : (f g : ℕ) → second p ls f ≤ second p ls g → is_close_behind p ls f g ≡ false
       → second p ls f + (ranked p).apart f g ≤ second p ls g
-  not_close f g le e = ltb-false (second p ls g) (second p ls f + (ranked p).apart f g)
-      (and_false (leb (second p ls f) (second p ls g)) (ltb (second p ls g) (second p ls f + (ranked p).apart f g)) e
-      (le-leb (second p ls f) (second p ls g) le))
+  not_close f g le e = search rules
 
   not_both : (f g : ℕ) → f < g → are_too_close p ls f g ≡ false → (is_close_behind p ls f g ≡ false)
       × (is_close_behind p ls g f ≡ false)
-  not_both f g lt e = or_parts (is_close_behind p ls f g) (is_close_behind p ls g f)
-      (and_false (ltb f g) (is_close_behind p ls f g || is_close_behind p ls g f) e (lt-ltb f g lt))
+  not_both f g lt e = search rules
 
   -- and keep every rule
   pub are_feasible : IsWellFormed p → first_from (is_shut p ls) 1 (count p) ≡ None
@@ -115,8 +112,8 @@ module _ (p : Problem) (ls : Landings) where
 
 module _ (p : Problem) where
   pub passed_low : IsWellFormed p → (r : ℕ) → IsRank (count p) r → (flight p r).passed ≤ p.k
-  passed_low h zero q = absurd (let a = q.0 in omega arith)
-  passed_low h (suc i) q = let b = q.1 in h.passed i no_waiting (omega arith)
+  passed_low h zero q = omega arith
+  passed_low h (suc i) q = omega arith
 
   pub sound_problem : IsWellFormed p → SoundProblem (ranked p)
-  sound_problem h = sound_ranked p h.table (λ q r e. let b = h.between_ranks q r e in (b.0, b.1))
+  sound_problem h = search (rules, sound_ranked)

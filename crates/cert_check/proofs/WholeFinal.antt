@@ -1,22 +1,21 @@
 -- No state of the last stage contradicts what a whole certificate claims: each of its pairs is that of a feasible list.
-use Rattle.std.proofs.Common.{◌≡◌, ℕ, Bool, true, false, ◌&&◌, cond, eqb, ltb, List, length, get_or, Some, None, refl}
-use Rattle.std.proofs.Common.{sym, ap, ◌∙◌, arith}
+use Rattle.std.proofs.Common.{rules}
+use Rattle.std.proofs.Common.{◌≡◌, ℕ, Bool, true, false, ◌&&◌, eqb, ltb, List, None, refl}
+use Rattle.std.proofs.Common.{ap, ◌∙◌, arith}
 use Rattle.std.specs.Prelude.{All}
 use Rattle.std.specs.List.{list_any}
 use Rattle.std.proofs.lemmas.Bool.{eqb-true, ne_eqb, le-ltb}
 use Rattle.landing_rules.specs.Flights.{Schedule}
 use Rattle.landing_rules.specs.Problem.{Problem, IsFeasibleList, list_objective}
-use Rattle.cps_theory.specs.RankLists.{IsRank, of_rank}
-use Rattle.cps_theory.specs.LandingTrail.{ranks}
+use Rattle.cps_theory.specs.RankLists.{IsRank}
 use Rattle.cps_theory.specs.Feasible.{Feasible, second_and_cost, second_in}
 use Rattle.cps_theory.specs.Labels.{Pair}
-use Rattle.cps_theory.specs.FirstFound.{element_from}
 use Rattle.cps_theory.specs.Patterns.{PatternNode}
 use Rattle.cps_theory.specs.laws.LeastObjective.{landing_trail_feasible}
 use Rattle.landing_joint.specs.RankedProblem.{ranked, cost_at, value_at}
 use Rattle.landing_joint.specs.shared.RankedLists.{feasible_agree, feasible_list}
 use Rattle.landing_joint.specs.shared.BestLists.{list_value}
-use Rattle.landing_joint.specs.shared.FirstBestLists.{list_of, list_of_at, list_of_long, value_agree}
+use Rattle.landing_joint.specs.shared.FirstBestLists.{list_of_at, list_of_long, value_agree}
 use Rattle.cps_problem.specs.WellFormed.{IsWellFormed}
 use Rattle.certificate.specs.States.{State}
 use Rattle.certificate.specs.declared.certificate.Claim.TheVariants as claim
@@ -24,7 +23,7 @@ use Rattle.cert_check.specs.Landings.{Landings, count}
 use Rattle.cert_check.specs.Meaning.{IsShownOptimal, NothingIsFeasible}
 use Rattle.cert_check.specs.States.{node_of, is_final, is_final_below, final_failure}
 use Rattle.cert_check.specs.Whole.{Attains, IsWholeState}
-use Rattle.cert_check.proofs.Sound.{sound_problem, passed_low}
+use Rattle.cert_check.proofs.Sound.{sound_problem}
 use Rattle.cert_check.proofs.WholeStates.{any_not, none_passes}
 
 module _ (p : Problem) (well : IsWellFormed p) where
@@ -32,25 +31,17 @@ module _ (p : Problem) (well : IsWellFormed p) where
   map_listed : (t : ℕ → ℕ) → Feasible (ranked p) t → (u : Schedule) × IsFeasibleList p u
       × (list_objective p u ≡ value_at p (second_and_cost (cost_at p) (count p) t))
   map_listed t f =
-      let n = count p in
-      let u = list_of n t in
-      let long = list_of_long n t in (
-        u,
-        feasible_list p (passed_low p well) u long
-            (feasible_agree (ranked p) t (of_rank 0 u) (λ r q. sym (list_of_at n t r q)) f),
-        list_value p u long
-            ∙ value_agree p (of_rank 0 u) t (list_of_at n t),
-      )
+      let long = list_of_long (count p) t in search
+      (rules, feasible_list, feasible_agree, list_of_at, list_value, value_agree)
 
   -- so a pair that a node of the last stage attains is that of a feasible list
   pub list_from : (w : PatternNode) (q : Pair) → Attains p w q → w.0 ≡ count p → (u : Schedule)
       × IsFeasibleList p u × (list_objective p u ≡ value_at p q)
   list_from w q a at =
       let xs = a.landings in
-      let whole : length (ranks xs) ≡ count p = ap (λ (z : PatternNode). z.0) a.at ∙ at in
-      let f = landing_trail_feasible (ranked p) (cost_at p) (sound_problem p well) xs a.legal a.landed whole in
-      let u = map_listed (second_in xs) f.0 in
-      (u.0, u.1, u.2 ∙ ap (value_at p) (sym f.1 ∙ a.is))
+      let f = landing_trail_feasible (ranked p) (cost_at p) (sound_problem p well) xs a.legal a.landed
+      (ap (λ (z : PatternNode). z.0) a.at ∙ at) in
+      let u = map_listed (second_in xs) f.0 in search rules
 
   -- ---- an optimum is claimed
 
@@ -70,8 +61,7 @@ module _ (p : Problem) (well : IsWellFormed p) where
 
   pub optimal_final : (v : ℕ) (ls : Landings) → IsShownOptimal p ls v → (ss : List State) → All (IsWholeState p) ss
       → final_failure p (claim.Optimal v) ss ≡ None
-  optimal_final v ls shown ss h =
-      none_passes (is_final_below p v) 1 ss (λ k d lt. not_below v ls shown (get_or ss k d) (h k d lt))
+  optimal_final v ls shown ss h = search (rules, none_passes, not_below)
 
   -- ---- nothing is feasible
 
@@ -84,20 +74,11 @@ module _ (p : Problem) (well : IsWellFormed p) where
   some_flight none zero' = let u = map_listed (λ r. 0) no_rank in none u.0 u.1
     where
       out : {A : Type 0} (r : ℕ) → IsRank (count p) r → A
-      out r q = absurd (let a = q.0 in let b = q.1 in omega arith)
+      out r q = search rules
 
       no_rank : Feasible (ranked p) (λ r. 0)
-      no_rank = record {
-        opened = λ r q. out r q;
-        started = λ r q. out r q;
-        separated = λ r q ir iq ne le. out r ir;
-        in_order = λ r q ir iq b. out r ir;
-        not_early = λ r q. out r q;
-        not_late = λ r q. out r q;
-      }
+      no_rank = search rules
 
   pub infeasible_final : NothingIsFeasible p → (ss : List State) → All (IsWholeState p) ss
       → final_failure p claim.Infeasible ss ≡ None
-  infeasible_final none ss h =
-      ap (λ (b : Bool). cond b (Some 0) (element_from (is_final p) 1 ss)) (ne_eqb (count p) 0 (some_flight none))
-      ∙ none_passes (is_final p) 1 ss (λ k d lt. not_final none (get_or ss k d) (h k d lt))
+  infeasible_final none ss h = simp (ne_eqb, some_flight, none_passes, not_final)

@@ -1,27 +1,28 @@
 -- States that leave nothing out keep the form of a certificate's, and are few.
-use Rattle.std.proofs.Common.{◌≡◌, ℕ, suc, ◌+◌, ◌*◌, ◌<◌, ◌≤◌, ◌^◌, ◌⊎◌, inl, inr, Bool, true, false, List, [], ◌∷◌}
-use Rattle.std.proofs.Common.{length, refl, sym, ap, subst, ◌∙◌, arith}
+use Rattle.std.proofs.Common.{rules}
+use Rattle.std.proofs.lemmas.Grind.{common_steps}
+use Rattle.std.proofs.Common.{◌≡◌, ℕ, suc, ◌+◌, ◌*◌, ◌<◌, ◌≤◌, ◌⊎◌, inl, inr, Bool, true, false, List, [], ◌∷◌}
+use Rattle.std.proofs.Common.{length, refl, arith}
 use Rattle.std.specs.Prelude.{All}
 use Rattle.std.specs.List.{list_all}
-use Rattle.std.specs.Ordering.{nat_cmp, bool_cmp, ordering_then}
+use Rattle.std.specs.Ordering.{bool_cmp, ordering_then}
 use Rattle.std.specs.Cmp.Lexicographic.{slice_cmp}
 use Rattle.std.specs.declared.cmp.Ordering.{Ordering}
 use Rattle.std.specs.declared.cmp.Ordering.TheVariants.{Less, Equal, Greater}
 use Rattle.std.proofs.Math.Nat.{pow-le-pow_right}
-use Rattle.std.proofs.lemmas.Cmp.{ranked}
 use Rattle.cps_base.specs.Limits.{most_waiting}
 use Rattle.landing_rules.specs.Problem.{Problem}
 use Rattle.cps_theory.specs.Separation.{Landing}
 use Rattle.cps_theory.specs.LandingTrail.{ranks}
 use Rattle.cps_theory.specs.Labels.{InPairs, Pair}
 use Rattle.cps_theory.specs.LegalPrefix.{Legal}
-use Rattle.cps_theory.specs.Patterns.{IsShaped, PatternNode, pattern_node}
+use Rattle.cps_theory.specs.Patterns.{IsShaped, pattern_node}
 use Rattle.cps_theory.specs.CertificateClosure.{node_cmp}
 use Rattle.cps_theory.specs.laws.PatternShape.{legal_is_shaped}
 use Rattle.cps_problem.specs.WellFormed.{IsWellFormed}
-use Rattle.certificate.specs.Patterns.{is_pattern_length, number_of}
+use Rattle.certificate.specs.Patterns.{number_of}
 use Rattle.certificate.specs.States.{State, IsState, AreStates, is_pair}
-use Rattle.certificate.specs.shared.PartsKept.{even_length, number_below}
+use Rattle.certificate.specs.shared.PartsKept.{number_below}
 use Rattle.cert_check.specs.Landings.{count}
 use Rattle.cert_check.specs.States.{node_of, rules_of}
 use Rattle.cert_check.specs.Whole.{IsWholeState, AreWholeStates}
@@ -40,12 +41,9 @@ some_pair q (x ∷ ps) i = omega arith
 module _ (p : Problem) (well : IsWellFormed p) where
   shape_of : (s : State) (xs : List Landing) → 1 ≤ s.stage → Legal (rules_of p) (ranks xs)
       → pattern_node (rules_of p) (ranks xs) ≡ node_of s → IsShaped p.k (count p) (node_of s) × (1 ≤ s.last)
-  shape_of s [] begun legal at = absurd (let e = ap (λ (z : PatternNode). z.0) at in omega arith)
+  shape_of s [] begun legal at = search rules
   shape_of s (x ∷ xs) begun legal at =
-      let h = legal_is_shaped (rules_of p) (λ r. (sound_problem p well).low r) x.0 (ranks xs) legal in
-      let last = ap (λ (z : PatternNode). z.2) at in
-      let one = legal.0.fits.from_one in
-      (subst (IsShaped p.k (count p)) at h, omega arith)
+      let h = legal_is_shaped (rules_of p) (λ r. (sound_problem p well).low r) x.0 (ranks xs) legal in search rules
 
   pub shape : (s : State) → IsWholeState p s → IsShaped p.k (count p) (node_of s) × (1 ≤ s.last)
   shape s h = let a = h.landable.1 in shape_of s a.landings h.begun a.legal a.at
@@ -53,19 +51,7 @@ module _ (p : Problem) (well : IsWellFormed p) where
   in_form : (s : State) → IsWholeState p s → list_all is_pair s.pairs ≡ true → IsState s
   in_form s h pairs =
       let k = shape s h in
-      let w = k.0 in
-      let few = well.few_flights in
-      let o = h.covers h.landable.0 h.landable.1 in
-      let stage = w.stage in
-      let latest = w.latest in
-      record {
-        stage = (h.begun, omega arith);
-        pattern = ap is_pattern_length w.digits ∙ even_length p.k well.few_places;
-        last = (k.1, omega arith);
-        some_pairs = some_pair o.0 s.pairs o.1;
-        pairs = pairs;
-        rising = h.rising;
-      }
+      let o = h.covers h.landable.0 h.landable.1 in grind (arith, common_steps)
 
   states_in_form : (ss : List State) → All (IsWholeState p) ss → All (λ s. list_all is_pair s.pairs ≡ true) ss
       → AreStates ss
@@ -81,31 +67,25 @@ module _ (p : Problem) (well : IsWellFormed p) where
 pub number_rises : (xs ys : List Bool) → length xs ≡ length ys → slice_cmp bool_cmp xs ys ≡ Less
     → number_of xs < number_of ys
 number_rises [] [] same e = absurd (cc)
-number_rises [] (y ∷ ys) same e = absurd (omega arith)
-number_rises (x ∷ xs) [] same e = absurd (omega arith)
-number_rises (true ∷ xs) (true ∷ ys) same e = let more = number_rises xs ys (omega arith) e in
-    let l : length xs ≡ length ys = omega arith in let b = ap (λ i. 2 ^ i) l in omega arith
+number_rises [] (y ∷ ys) same e = cc
+number_rises (x ∷ xs) [] same e = cc
+number_rises (true ∷ xs) (true ∷ ys) same e = grind (arith, number_rises xs ys (omega arith) e)
 number_rises (false ∷ xs) (false ∷ ys) same e = let more = number_rises xs ys (omega arith) e in omega arith
 number_rises (true ∷ xs) (false ∷ ys) same e = absurd (cc)
-number_rises (false ∷ xs) (true ∷ ys) same e = let a = number_below xs in let l : length xs ≡ length ys =
-    omega arith in let b = ap (λ i. 2 ^ i) l in omega arith
+number_rises (false ∷ xs) (true ∷ ys) same e = search (rules, number_below)
 
 pub number_same : (xs ys : List Bool) → length xs ≡ length ys → slice_cmp bool_cmp xs ys ≡ Equal
     → number_of xs ≡ number_of ys
 number_same [] [] same e = refl
-number_same [] (y ∷ ys) same e = absurd (omega arith)
-number_same (x ∷ xs) [] same e = absurd (omega arith)
-number_same (true ∷ xs) (true ∷ ys) same e = let more = number_same xs ys (omega arith) e in
-    let l : length xs ≡ length ys = omega arith in let b = ap (λ i. 2 ^ i) l in omega arith
-number_same (false ∷ xs) (false ∷ ys) same e = let more = number_same xs ys (omega arith) e in omega arith
+number_same [] (y ∷ ys) same e = cc
+number_same (x ∷ xs) [] same e = cc
+number_same (true ∷ xs) (true ∷ ys) same e = cc (number_same xs ys (omega arith) e)
+number_same (false ∷ xs) (false ∷ ys) same e = cc (number_same xs ys (omega arith) e)
 number_same (true ∷ xs) (false ∷ ys) same e = absurd (cc)
 number_same (false ∷ xs) (true ∷ ys) same e = absurd (cc)
 
 number_small : (ds : List Bool) → length ds ≤ 6 → number_of ds < 64
-number_small ds few = let a = number_below ds in let b = power_few (length ds) few in omega arith
-  where
-    power_few : (i : ℕ) → i ≤ 6 → 2 ^ i ≤ 64
-    power_few i le = let a : 2 ^ i ≤ 2 ^ 6 = pow-le-pow_right (omega arith) le in omega arith
+number_small ds few = search (rules, number_below, pow-le-pow_right)
 
 -- a state's stage, pattern and last rank as one number
 code : State → ℕ
@@ -125,27 +105,12 @@ record IsCoded (width : ℕ) (s : State) : Type 0 where
 module _ (width : ℕ) (narrow : width ≤ 6) where
   code_low : (s : State) → IsCoded width s → code s < 249856
   unfolding code
-  code_low s h = let a = h.stage in let b = number_small s.pattern (let d = h.digits in omega arith) in let c =
-      h.last in omega arith
+  code_low s h = search (rules, number_small)
 
   code_rises : (s t : State) → IsCoded width s → IsCoded width t → node_cmp (node_of s) (node_of t) ≡ Less
       → code s < code t
   unfolding code
-  code_rises s t h k e =
-      let same : length s.pattern ≡ length t.pattern = h.digits ∙ sym k.digits in
-      let a = number_small s.pattern (let d = h.digits in omega arith) in
-      let b = number_small t.pattern (let d = k.digits in omega arith) in
-      let x = h.last in
-      let y = k.last in
-      elim (then_less (nat_cmp s.stage t.stage) _ e) [
-        | inl lt ↦ (let u : s.stage < t.stage = ranked s.stage t.stage Less (sym lt) in omega arith)
-        | inr r ↦ (let u : s.stage ≡ t.stage = ranked s.stage t.stage Equal (sym r.0) in
-            elim (then_less (slice_cmp bool_cmp s.pattern t.pattern) (nat_cmp s.last t.last) r.1) [
-              | inl lt ↦ (let v = number_rises s.pattern t.pattern same lt in omega arith)
-              | inr q ↦ (let v = number_same s.pattern t.pattern same q.0 in let z : s.last < t.last =
-                  ranked s.last t.last Less (sym q.1) in omega arith)
-            ])
-      ]
+  code_rises s t h k e = search (rules, number_small, number_rises, number_same)
 
   -- so many numbers are free from one on
   few_from : (ss : List State) (least : ℕ) → AscendBy (λ s t. node_cmp (node_of s) (node_of t) ≡ Less) ss
@@ -156,22 +121,15 @@ module _ (width : ℕ) (narrow : width ≤ 6) where
       let low = code_low s here.0 in
       let more = few_from ss (suc (code s)) up.1
       (λ t i. ((h t (inr i)).0, code_rises s t here.0 (h t (inr i)).0 (up.0 t i))) (omega arith) in
-      let at = here.1 in
       omega arith
 
 module _ (p : Problem) (well : IsWellFormed p) where
   coded : (s : State) → IsWholeState p s → IsCoded (2 * p.k) s
-  coded s h =
-      let w = (shape p well s h).0 in
-      let few = well.few_flights in
-      let stage = w.stage in
-      let latest = w.latest in
-      record { stage = omega arith; digits = w.digits; last = omega arith }
+  coded s h = grind (arith, shape p well s h)
 
   pub whole_in_form : (ss : List State) → AreWholeStates p ss → All (λ s. list_all is_pair s.pairs ≡ true) ss
       → AreStates ss × (length ss < 4294967295)
   whole_in_form ss h pairs =
-      let narrow = well.few_places in
       let few = few_from (2 * p.k) (omega arith) ss 0 (ascending ss h.ascending)
-      (λ s i. (coded s (all_at (IsWholeState p) ss h.each s i), omega arith)) (omega arith) in
-      (states_in_form p well ss h.each pairs, omega arith)
+      (λ s i. (coded s (all_at (IsWholeState p) ss h.each s i), omega arith)) (omega arith) in search
+      (rules, states_in_form)

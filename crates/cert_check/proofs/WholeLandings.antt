@@ -1,9 +1,10 @@
 -- The landings of a best list break none of the conditions.
-use Rattle.std.proofs.Common.{◌≡◌, ℕ, zero, suc, ◌+◌, ◌<◌, ◌≤◌, Bool, true, false, not, ◌&&◌, ◌||◌, leb, ltb, cond}
-use Rattle.std.proofs.Common.{length, Option, Some, None, refl, ap, ◌∙◌, arith}
-use Rattle.std.specs.Prelude.{◌==◌, bytes_eq, count_by, is_some}
+use Rattle.std.proofs.Common.{rules}
+use Rattle.std.proofs.Common.{◌≡◌, ℕ, zero, suc, ◌+◌, ◌<◌, ◌≤◌, Bool, true, false, not, ◌&&◌, leb, ltb}
+use Rattle.std.proofs.Common.{Option, None, refl, ap, ◌∙◌, arith}
+use Rattle.std.specs.Prelude.{bytes_eq, count_by}
 use Rattle.std.specs.Option.{option_or}
-use Rattle.std.proofs.lemmas.Bool.{or_from, le-ltb, lt-ltb, leb-true, ltb-true, eq-eqb}
+use Rattle.std.proofs.lemmas.Bool.{le-ltb, lt-ltb, leb-true, eq-eqb}
 use Rattle.landing_rules.specs.Problem.{Problem, IsFeasibleList, list_objective, place_in}
 use Rattle.cps_theory.specs.RankLists.{IsRank, of_rank}
 use Rattle.cps_theory.specs.Feasible.{Feasible}
@@ -12,9 +13,8 @@ use Rattle.cps_theory.specs.laws.FirstFound.{none_from}
 use Rattle.landing_joint.specs.RankedProblem.{ranked, start_at, apart_at}
 use Rattle.landing_joint.specs.shared.RankedLists.{list_feasible, each_at}
 use Rattle.certificate.specs.declared.certificate.Claim.TheVariants as claim
-use Rattle.cert_check.specs.declared.verdict.Reason.TheVariants.{Flights}
 use Rattle.cert_check.specs.Landings.{Landings, count, flight, seconds, second, is_not_once, are_not_flights, is_shut}
-use Rattle.cert_check.specs.Landings.{is_early, is_close_behind, are_too_close, are_out_of_order, place, is_shifted}
+use Rattle.cert_check.specs.Landings.{is_early, is_close_behind, are_too_close, are_out_of_order, is_shifted}
 use Rattle.cert_check.specs.Meaning.{AreItsLandings, IsShownOptimal}
 use Rattle.cert_check.specs.Verdict.{flights_reason, landing_reason}
 
@@ -27,20 +27,18 @@ pairs_none find x (suc m) h = ap (λ (o : Option ℕ). option_or (with_number x 
 
 module _ (p : Problem) (ls : Landings) where
   no_rank : (test : ℕ → Bool) → ((r : ℕ) → IsRank (count p) r → test r ≡ false) → first_from test 1 (count p) ≡ None
-  no_rank test h = none_from test 1 (count p) (λ r one lt. h r (one, omega arith))
+  no_rank test h = search (rules, none_from)
 
   no_two : (test : ℕ → ℕ → Bool) → ((r q : ℕ) → IsRank (count p) r → IsRank (count p) q → test r q ≡ false)
       → first_pair_from (λ r. first_from (test r) 1 (count p)) 1 (count p) ≡ None
-  no_two test h = pairs_none (λ r. first_from (test r) 1 (count p)) 1 (count p)
-      (λ r one lt. no_rank (test r) (λ q iq. h r q (one, omega arith) iq))
+  no_two test h = search (rules, pairs_none, no_rank)
 
   -- each waiting flight lands once
   are_flights : (v : ℕ) → AreItsLandings p ls → are_not_flights p (claim.Optimal v) ls ≡ false
   are_flights v h =
       let once = no_rank (is_not_once p ls)
       (λ r q. ap not (eq-eqb (count_by (λ l. bytes_eq l.0 (flight p r).callsign) ls) 1 (h.each_once r q.0 q.1))) in
-      or_from (not (length ls == count p)) (is_some (first_from (is_not_once p ls) 1 (count p)))
-      (ap not (eq-eqb (length ls) (count p) h.as_many)) (ap is_some once)
+      search rules
 
   module _ (f : IsFeasibleList p (seconds p ls)) where
     abbrev map_feasible : Feasible (ranked p) (of_rank 0 (seconds p ls))
@@ -62,12 +60,7 @@ module _ (p : Problem) (ls : Landings) where
             (map_feasible.separated r q ir iq ne (leb-true (second p ls r) (second p ls q) e))
 
     are_apart : (r q : ℕ) → IsRank (count p) r → IsRank (count p) q → are_too_close p ls r q ≡ false
-    are_apart r q ir iq = go (ltb r q) refl
-      where
-        go : (b : Bool) → ltb r q ≡ b → b && (is_close_behind p ls r q || is_close_behind p ls q r) ≡ false
-        go false e = refl
-        go true e = let lt = ltb-true r q e in or_from (is_close_behind p ls r q) (is_close_behind p ls q r)
-            (not_close r q ir iq (λ s. absurd (omega arith))) (not_close q r iq ir (λ s. absurd (omega arith)))
+    are_apart r q ir iq = search (rules, not_close)
 
     are_ordered : (r q : ℕ) → IsRank (count p) r → IsRank (count p) q → are_out_of_order p ls r q ≡ false
     are_ordered r q ir iq = go ((ranked p).rules.before r q) refl
@@ -79,26 +72,12 @@ module _ (p : Problem) (ls : Landings) where
     near : (r : ℕ) → IsRank (count p) r → is_shifted p ls r ≡ false
     near r q =
         let k = each_at p (seconds p ls) (λ r w a. (r ≤ place_in (seconds p ls) a + p.k)
-        × (place_in (seconds p ls) a + w.passed ≤ r + p.k)) f.shift r q in
-        or_from (ltb (place p ls r + p.k) r) (ltb (r + p.k) (place p ls r + (flight p r).passed))
-        (le-ltb (place p ls r + p.k) r k.0) (le-ltb (r + p.k) (place p ls r + (flight p r).passed) k.1)
+        × (place_in (seconds p ls) a + w.passed ≤ r + p.k)) f.shift r q in search rules
 
     pub keeps_rules : (v : ℕ) → list_objective p (seconds p ls) ≡ v → landing_reason p v ls ≡ None
     unfolding landing_reason
-    keeps_rules v value =
-        rw (
-          no_rank (is_shut p ls) is_open,
-          no_rank (is_early p ls) is_late,
-          no_two (are_too_close p ls) are_apart,
-          no_two (are_out_of_order p ls) are_ordered,
-          no_rank (is_shifted p ls) near,
-          eq-eqb
-              (list_objective p (seconds p ls)) v value,
-        ) refl
+    keeps_rules v value = simp (no_rank, is_open, is_late, no_two, are_apart, are_ordered, near, eq-eqb)
 
   pub no_reason : (v : ℕ) → IsShownOptimal p ls v → (flights_reason p (claim.Optimal v) ls ≡ None)
       × (landing_reason p v ls ≡ None)
-  no_reason v h = (
-    ap (λ (b : Bool). cond b (Some Flights) None) (are_flights v h.landings),
-    keeps_rules h.best.feasible v h.value,
-  )
+  no_reason v h = search (rules, are_flights, keeps_rules)

@@ -1,19 +1,18 @@
 -- What the pairs of a state come from: landings of the makespan cost nothing, and the last of them is at an open
 -- second.
-use Rattle.std.proofs.Common.{◌≡◌, ℕ, ◌<◌, ◌≤◌, inl, inr, List, [], ◌∷◌, length, true, refl, sym, ap, subst, ◌∙◌, arith}
+use Rattle.std.proofs.Common.{rules}
+use Rattle.std.proofs.Common.{◌≡◌, ◌<◌, ◌≤◌, inl, inr, List, [], ◌∷◌, length, true, refl, sym, ap, ◌∙◌, arith}
 use Rattle.std.specs.Prelude.{◌&&◌, nat_lt}
 use Rattle.std.proofs.lemmas.Bool.{and_parts}
 use Rattle.std.proofs.lemmas.Bool.Decides.{nat_tests}
-use Rattle.landing_rules.specs.declared.objective.Objective.{Objective}
 use Rattle.landing_rules.specs.declared.objective.Objective.TheVariants.{Makespan}
 use Rattle.landing_rules.specs.Problem.{Problem}
 use Rattle.cps_theory.specs.Separation.{Landing}
 use Rattle.cps_theory.specs.LandingTrail.{Landed, cost_of, pair_of, ranks}
 use Rattle.cps_theory.specs.Labels.{InPairs, Pair}
 use Rattle.cps_theory.specs.Feasible.{next_from}
-use Rattle.cps_theory.specs.Patterns.{PatternNode, pattern_node}
-use Rattle.landing_joint.specs.RankedProblem.{cost_at, cost_by, no_waiting, ranked}
-use Rattle.cps_theory.specs.RankLists.{of_rank}
+use Rattle.cps_theory.specs.Patterns.{pattern_node}
+use Rattle.landing_joint.specs.RankedProblem.{cost_at, ranked}
 use Rattle.certificate.specs.States.{State, rises}
 use Rattle.cert_check.specs.States.{node_of, rules_of}
 use Rattle.cert_check.specs.Whole.{Attains}
@@ -21,10 +20,7 @@ use Rattle.cert_check.specs.WholeSizes.{MakespanPairsLaw, PairsAreOpenLaw}
 
 free : (p : Problem) → p.objective ≡ Makespan → (xs : List Landing) → cost_of (cost_at p) xs ≡ 0
 free p e [] = refl
-free p e (x ∷ xs) =
-    let one : cost_at p x.0 x.1 ≡ 0 = ap (λ (o : Objective). cost_by o (of_rank no_waiting p.flights x.0) x.1) e in
-    let rest = free p e xs in
-    omega (arith, one, rest)
+free p e (x ∷ xs) = cc (free p e xs)
 
 pub makespan_pairs : MakespanPairsLaw
 makespan_pairs p s e h = go s.pairs h.rising (λ q i. costless q ((h.undominated q).0 i).attained)
@@ -36,24 +32,21 @@ makespan_pairs p s e h = go s.pairs h.rising (λ q i. costless q ((h.undominated
     go [] up none = omega arith
     go (a ∷ []) up none = omega arith
     go (a ∷ b ∷ rest) up none =
-        let both = and_parts (nat_lt a.0 b.0 && nat_lt b.1 a.1) (rises (b ∷ rest)) up in
-        let falls = (and_parts (nat_lt a.0 b.0) (nat_lt b.1 a.1) both.0).1 in
-        let lt : b.1 < a.1 = grind (arith, nat_tests, falls) in
-        let x = none a (inl refl) in
-        let y = none b (inr (inl refl)) in
-        absurd (omega (arith, lt, x, y))
+        let lt : b.1 < a.1 = grind (
+          arith,
+          nat_tests,
+          ((and_parts (nat_lt a.0 b.0) (nat_lt b.1 a.1)
+              (and_parts (nat_lt a.0 b.0 && nat_lt b.1 a.1) (rises (b ∷ rest)) up).0).1),
+        ) in
+        absurd (omega (arith, lt, (none a (inl refl)), (none b (inr (inl refl)))))
 
 module _ (p : Problem) (s : State) (q : Pair) where
   -- the last landing of a prefix of this node
   opened : (xs : List Landing) → 1 ≤ s.stage → Landed (λ r u. (ranked p).is_open r u ≡ true) (next_from (ranked p)) xs
       → pattern_node (rules_of p) (ranks xs) ≡ node_of s
       → pair_of (cost_at p) xs ≡ q → (ranked p).is_open s.last q.0 ≡ true
-  opened [] begun landed at is = absurd (let e = ap (λ (z : PatternNode). z.0) at in omega (arith, e, begun))
-  opened (x ∷ xs) begun landed at is =
-      let last : x.0 ≡ s.last = ap (λ (z : PatternNode). z.2) at in
-      let second : x.1 ≡ q.0 = ap (λ (z : Pair). z.0) is in
-      subst (λ (t : ℕ). (ranked p).is_open s.last t ≡ true) second
-      (subst (λ (r : ℕ). (ranked p).is_open r x.1 ≡ true) last landed.0)
+  opened [] begun landed at is = search rules
+  opened (x ∷ xs) begun landed at is = search rules
 
 pub pairs_open : PairsAreOpenLaw
 pairs_open p s q h i =

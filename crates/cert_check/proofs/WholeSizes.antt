@@ -1,15 +1,14 @@
 -- The states of a stage are numbered by their digits and then by their last rank. Of these numbers few are those of a
 -- state, and a state has at least as many of them before it as there are states before it.
+use Rattle.std.proofs.Common.{rules}
+use Rattle.std.proofs.lemmas.Grind.{common_steps}
 use Rattle.std.proofs.Common.{◌≡◌, ℕ, zero, suc, ◌+◌, ◌-◌, ◌*◌, ◌/◌, ◌%◌, ◌<◌, ◌≤◌, ◌^◌, inl, inr, List, [], ◌∷◌}
-use Rattle.std.proofs.Common.{length, get_or, true, false, Bool, cond, ◌&&◌, ◌||◌, leb, eqb, refl, sym, ap, subst, ◌∙◌}
+use Rattle.std.proofs.Common.{length, get_or, true, false, Bool, cond, ◌&&◌, ◌||◌, leb, eqb, refl, sym, ap, ◌∙◌}
 use Rattle.std.proofs.Common.{arith}
 use Rattle.std.specs.Prelude.{count_by}
-use Rattle.std.specs.Ordering.{nat_cmp, bool_cmp}
-use Rattle.std.specs.Cmp.Lexicographic.{slice_cmp}
-use Rattle.std.specs.declared.cmp.Ordering.TheVariants.{Less, Equal}
+use Rattle.std.specs.declared.cmp.Ordering.TheVariants.{Less}
 use Rattle.std.proofs.Math.Nat.{mul-le-mul_right}
-use Rattle.std.proofs.lemmas.Bool.{and_from, eq-eqb, le-leb, lt-leb, or_left, or_right}
-use Rattle.std.proofs.lemmas.Cmp.{ranked}
+use Rattle.std.proofs.lemmas.Bool.{eq-eqb}
 use Rattle.std.proofs.lemmas.List.Sums.{sum_by-cons}
 use Rattle.cps_theory.specs.Patterns.{IsShaped}
 use Rattle.cps_theory.specs.CertificateClosure.{node_cmp}
@@ -24,7 +23,7 @@ use Rattle.landing_rules.specs.shared.Counting.{Member}
 use Rattle.landing_rules.specs.shared.Members.{all_at}
 use Rattle.landing_rules.specs.shared.OneList.{AscendBy}
 use Rattle.cert_check.proofs.WholeUnique.{ascending}
-use Rattle.cert_check.proofs.WholeForm.{number_rises, number_same, shape, then_less}
+use Rattle.cert_check.proofs.WholeForm.{number_rises, number_same, shape}
 
 -- ---- digits by their number
 
@@ -40,37 +39,19 @@ digit_in (suc n) m zero = leb (2 ^ n) m
 digit_in (suc n) m (suc j) = cond (leb (2 ^ n) m) (digit_in n (m - 2 ^ n) j) (digit_in n m j)
 
 count_head : (d : Bool) (ds : List Bool) → count_by (λ x. x) (d ∷ ds) ≡ cond d 1 0 + count_by (λ x. x) ds
-count_head d ds = sum_by-cons (λ (x : Bool). cond x 1 0) d ds
+count_head d ds = simp (sum_by-cons)
 
 ones_are : (ds : List Bool) → ones_in (length ds) (number_of ds) ≡ count_by (λ d. d) ds
 ones_are [] = refl
-ones_are (true ∷ ds) =
-    let high : leb (2 ^ length ds) (2 ^ length ds + number_of ds) ≡ true =
-    le-leb (2 ^ length ds) (2 ^ length ds + number_of ds) (omega arith) in
-    let rest : 2 ^ length ds + number_of ds - 2 ^ length ds ≡ number_of ds = omega arith in
-    let more = ones_are ds in
-    rw (high, rest, more, count_head true ds) refl
-ones_are (false ∷ ds) =
-    let low : leb (2 ^ length ds) (number_of ds) ≡ false = lt-leb (2 ^ length ds) (number_of ds) (number_below ds) in
-    let more = ones_are ds in
-    let none : 0 + number_of ds ≡ number_of ds = omega arith in
-    rw (none, low, more, count_head false ds) refl
+ones_are (true ∷ ds) = grind (arith, common_steps, ones_are ds)
+ones_are (false ∷ ds) = search (rules, number_below, ones_are ds)
 
 digit_is : (ds : List Bool) (j : ℕ) → digit_in (length ds) (number_of ds) j ≡ get_or ds j false
 digit_is [] j = refl
-digit_is (true ∷ ds) zero = le-leb (2 ^ length ds) (2 ^ length ds + number_of ds) (omega arith)
-digit_is (false ∷ ds) zero = lt-leb (2 ^ length ds) (0 + number_of ds) (let low = number_below ds in omega (arith, low))
-digit_is (true ∷ ds) (suc j) =
-    let high : leb (2 ^ length ds) (2 ^ length ds + number_of ds) ≡ true =
-    le-leb (2 ^ length ds) (2 ^ length ds + number_of ds) (omega arith) in
-    let rest : 2 ^ length ds + number_of ds - 2 ^ length ds ≡ number_of ds = omega arith in
-    let more = digit_is ds j in
-    rw (high, rest, more) refl
-digit_is (false ∷ ds) (suc j) =
-    let low : leb (2 ^ length ds) (number_of ds) ≡ false = lt-leb (2 ^ length ds) (number_of ds) (number_below ds) in
-    let more = digit_is ds j in
-    let none : 0 + number_of ds ≡ number_of ds = omega arith in
-    rw (none, low, more) refl
+digit_is (true ∷ ds) zero = search rules
+digit_is (false ∷ ds) zero = search (rules, number_below)
+digit_is (true ∷ ds) (suc j) = search (rules, digit_is ds j)
+digit_is (false ∷ ds) (suc j) = search (rules, number_below, digit_is ds j)
 
 -- ---- the numbers of states
 
@@ -85,17 +66,12 @@ passing t (suc c) = passing t c + cond (t c) 1 0
 
 module _ (t : ℕ → Bool) where
   passing_on : (c more : ℕ) → passing t c ≤ passing t (c + more)
-  passing_on c zero = let same : c + 0 ≡ c = omega arith in rw same (omega arith)
+  passing_on c zero = search rules
   passing_on c (suc more) = let a = passing_on c more in let same : c + suc more ≡ suc (c + more) =
-      omega arith in rw same (omega (arith, a))
+      omega arith in search rules
 
   passing_more : (c d : ℕ) → t c ≡ true → c < d → passing t c + 1 ≤ passing t d
-  passing_more c d here lt =
-      let on = passing_on (suc c) (d - suc c) in
-      let same : suc c + (d - suc c) ≡ d = omega arith in
-      let last : passing t (suc c) ≤ passing t d = subst (λ (x : ℕ). passing t (suc c) ≤ passing t x) same on in
-      let one : cond {A = ℕ} (t c) 1 0 ≡ 1 = ap (λ (b : Bool). cond {A = ℕ} b 1 0) here in
-      omega (arith, last, one)
+  passing_more c d here lt = grind (arith, passing_on (suc c) (d - suc c))
 
 few_of : (k : ℕ) → k ≤ 3 → passing (is_of_state k) (8 * 2 ^ (2 * k)) ≡ most_nodes k
 few_of zero le = refl
@@ -114,32 +90,15 @@ Shaped k n s = IsShaped k n (node_of s)
 
 module _ (k n : ℕ) (narrow : k ≤ 3) where
   parts : (s : State) → Shaped k n s → (number k s / 8 ≡ number_of s.pattern) × (number k s % 8 ≡ s.last + k - s.stage)
-  parts s h = let a = h.near.0 in let b = h.near.1 in (omega (arith, a, b), omega (arith, a, b))
+  parts s h = omega arith
 
   number_low : (s : State) → Shaped k n s → number k s < 8 * 2 ^ (2 * k)
-  number_low s h =
-      let a = h.near.0 in
-      let b = h.near.1 in
-      let low : number_of s.pattern < 2 ^ (2 * k) =
-      subst (λ (x : ℕ). number_of s.pattern < 2 ^ x) h.digits (number_below s.pattern) in
-      omega (arith, a, b, low)
+  number_low s h = search (rules, number_below)
 
   -- its last rank is placed: it is below the digits, or its digit is 1
   last_there : (s : State) → Shaped k n s
       → (eqb (s.last + k - s.stage) 0 || digit_in (2 * k) (number_of s.pattern) (s.last + k - s.stage - 1)) ≡ true
-  last_there s h = elim h.latest_placed [
-    | inl low ↦ or_left (eqb (s.last + k - s.stage) 0)
-        (digit_in (2 * k) (number_of s.pattern) (s.last + k - s.stage - 1))
-        (eq-eqb (s.last + k - s.stage) 0 (omega (arith, low)))
-    | inr set ↦
-        let place : s.last + k - s.stage - 1 ≡ s.last + k - suc s.stage = omega arith in
-        let there : digit_in (2 * k) (number_of s.pattern) (s.last + k - s.stage - 1) ≡ true =
-        ap (λ (x : ℕ). digit_in (2 * k) (number_of s.pattern) x) place
-        ∙ ap (λ (x : ℕ). digit_in x (number_of s.pattern) (s.last + k - suc s.stage)) (sym h.digits)
-        ∙ digit_is s.pattern (s.last + k - suc s.stage) ∙ set in
-        or_right (eqb (s.last + k - s.stage) 0) (digit_in (2 * k) (number_of s.pattern) (s.last + k - s.stage - 1))
-        there
-  ]
+  last_there s h = search (rules, digit_is)
 
   number_is : (s : State) → Shaped k n s → is_of_state k (number k s) ≡ true
   number_is s h =
@@ -147,53 +106,27 @@ module _ (k n : ℕ) (narrow : k ≤ 3) where
       let ones : eqb (ones_in (2 * k) (number_of s.pattern)) k ≡ true =
       eq-eqb (ones_in (2 * k) (number_of s.pattern)) k (ap (λ (x : ℕ). ones_in x (number_of s.pattern)) (sym h.digits)
       ∙ ones_are s.pattern ∙ h.ones) in
-      let there = last_there s h in
-      rw (two.0, two.1) (and_from _ _ ones there)
+      let there = last_there s h in cc
 
   -- the states of a problem before this one are at most so many
   abbrev before : State → ℕ
   before s = s.stage * most_nodes k + passing (is_of_state k) (number k s)
 
   few_below : (s : State) → Shaped k n s → passing (is_of_state k) (number k s) + 1 ≤ most_nodes k
-  few_below s h =
-      let more = passing_more (is_of_state k) (number k s) (8 * 2 ^ (2 * k)) (number_is s h) (number_low s h) in
-      subst (λ (x : ℕ). passing (is_of_state k) (number k s) + 1 ≤ x) (few_of k narrow) more
+  few_below s h = search (rules, passing_more, number_is, number_low, few_of)
 
   within : (s : State) → Shaped k n s → before s + 1 ≤ (n + 1) * most_nodes k
-  within s h =
-      let few = few_below s h in
-      let stage = mul-le-mul_right (most_nodes k) (let le = h.stage in let x : s.stage + 1 ≤ n + 1 =
-      omega (arith, le) in x) in
-      omega (arith, few, stage)
+  within s h = grind (arith, few_below s h)
 
   later_stage : (s t : State) → Shaped k n s → s.stage < t.stage → before s + 1 ≤ before t
-  later_stage s t h lt =
-      let few = few_below s h in
-      let stage = mul-le-mul_right (most_nodes k) (let x : s.stage + 1 ≤ t.stage = omega (arith, lt) in x) in
-      omega (arith, few, stage)
+  later_stage s t h lt = grind (arith, few_below s h)
 
   same_stage : (s t : State) → Shaped k n s → s.stage ≡ t.stage → number k s < number k t → before s + 1 ≤ before t
-  same_stage s t h e lt =
-      let more = passing_more (is_of_state k) (number k s) (number k t) (number_is s h) lt in
-      let stage = ap (λ (x : ℕ). x * most_nodes k) e in
-      omega (arith, more, stage)
+  same_stage s t h e lt = search (rules, passing_more, number_is)
 
   rises : (s t : State) → Shaped k n s → Shaped k n t → node_cmp (node_of s) (node_of t) ≡ Less
       → before s + 1 ≤ before t
-  rises s t h j e =
-      let same : length s.pattern ≡ length t.pattern = h.digits ∙ sym j.digits in
-      let a = h.near.1 in
-      let b = h.near.0 in
-      let c = j.near.0 in
-      elim (then_less (nat_cmp s.stage t.stage) _ e) [
-        | inl lt ↦ later_stage s t h (ranked s.stage t.stage Less (sym lt))
-        | inr r ↦ (let u : s.stage ≡ t.stage = ranked s.stage t.stage Equal (sym r.0) in
-            same_stage s t h u (elim (then_less (slice_cmp bool_cmp s.pattern t.pattern) (nat_cmp s.last t.last) r.1) [
-              | inl lt ↦ (let v = number_rises s.pattern t.pattern same lt in omega (arith, v, a, b, c, u))
-              | inr q ↦ (let v = number_same s.pattern t.pattern same q.0 in let z : s.last < t.last =
-                  ranked s.last t.last Less (sym q.1) in omega (arith, v, z, a, b, c, u))
-            ]))
-      ]
+  rises s t h j e = search (rules, later_stage, same_stage, number_rises, number_same)
 
   few_from : (ss : List State) (least : ℕ) → AscendBy (λ s t. node_cmp (node_of s) (node_of t) ≡ Less) ss
       → ((s : State) → Member s ss → Shaped k n s × (least ≤ before s))
@@ -201,12 +134,9 @@ module _ (k n : ℕ) (narrow : k ≤ 3) where
   few_from [] least up h le = omega (arith, le)
   few_from (s ∷ ss) least up h le =
       let here = h s (inl refl) in
-      let top = within s here.0 in
-      let at = here.1 in
       let more = few_from ss (suc (before s)) up.1
       (λ t i. ((h t (inr i)).0, (let x = rises s t here.0 (h t (inr i)).0 (up.0 t i) in omega (arith, x))))
-      (omega (arith, top)) in
-      omega (arith, more, at)
+      (omega (arith, (within s here.0))) in omega arith
 
 pub few_states : WholeStatesAreFewLaw
 few_states p ss well h =
@@ -216,7 +146,9 @@ few_states p ss well h =
     let begun : (s : State) → Member s ss → most_nodes p.k ≤ before p.k n well.few_places s = λ s i.
     (let one = (all_at (IsWholeState p) ss h.each s i).begun in let m =
     mul-le-mul_right (most_nodes p.k) one in omega (arith, m)) in
-    let all = few_from p.k n well.few_places ss (most_nodes p.k) (ascending ss h.ascending)
-    (λ s i. (shaped s i, begun s i)) (let m = mul-le-mul_right (most_nodes p.k) (let x : 1 ≤ n + 1 =
-    omega arith in x) in omega (arith, m)) in
-    omega (arith, all)
+    omega (
+      arith,
+      (few_from p.k n well.few_places ss (most_nodes p.k) (ascending ss h.ascending)
+          (λ s i. (shaped s i, begun s i)) (let m = mul-le-mul_right (most_nodes p.k) (let x : 1 ≤ n + 1 =
+          omega arith in x) in omega (arith, m))),
+    )

@@ -1,12 +1,12 @@
 -- The states of a whole certificate miss no successor, and have their shape.
+use Rattle.std.proofs.Common.{rules}
 use Rattle.std.proofs.Common.{◌≡◌, ℕ, zero, suc, ◌+◌, ◌-◌, ◌*◌, ◌<◌, ◌≤◌, inl, inr, Bool, true, false, not, ◌&&◌, leb}
-use Rattle.std.proofs.Common.{ltb, List, [], ◌∷◌, length, get_or, Option, Some, None, refl, sym, ap, ap₂, subst, ◌∙◌}
+use Rattle.std.proofs.Common.{ltb, List, [], ◌∷◌, length, get_or, Option, Some, None, refl, sym, ap, subst, ◌∙◌}
 use Rattle.std.proofs.Common.{arith}
-use Rattle.std.specs.Prelude.{All, count_by, option_map, is_none}
+use Rattle.std.specs.Prelude.{All, option_map}
 use Rattle.std.specs.List.{list_any}
-use Rattle.std.specs.Ordering.{is_eq}
 use Rattle.std.specs.Option.{option_or}
-use Rattle.std.proofs.lemmas.Bool.{and_from, or_from, or_left, or_right, le-leb, leb-true, ltb-true, eq-eqb}
+use Rattle.std.proofs.lemmas.Bool.{or_from, or_left, or_right}
 use Rattle.std.proofs.lemmas.Cmp.{tied_itself}
 use Rattle.wake_table.specs.declared.category.Category.{Category}
 use Rattle.wake_table.specs.Table.{separation}
@@ -15,14 +15,13 @@ use Rattle.cps_theory.specs.RankLists.{IsRank}
 use Rattle.cps_theory.specs.Separation.{Landing}
 use Rattle.cps_theory.specs.LandingTrail.{Landed, latest_landing, ranks}
 use Rattle.cps_theory.specs.Feasible.{next_from}
-use Rattle.cps_theory.specs.Labels.{InPairs, NoWorse, Pair, next_pair, no_worse}
+use Rattle.cps_theory.specs.Labels.{InPairs, NoWorse, Pair, no_worse}
 use Rattle.cps_theory.specs.LegalPrefix.{Legal}
 use Rattle.cps_theory.specs.Patterns.{IsShaped, PatternNode, PatternPermits, pattern_newest, pattern_node, pattern_push}
 use Rattle.cps_theory.specs.FirstFound.{with_number, element_from}
 use Rattle.cps_theory.specs.CertificateClosure as closure
 use Rattle.cps_theory.specs.CertificateClosure.{is_placed_by_pattern, permits_next, node_cmp}
 use Rattle.cps_theory.specs.laws.FirstFound.{none_from}
-use Rattle.cps_theory.specs.laws.LabelDominance.{last_ranks}
 use Rattle.cps_theory.specs.laws.LeastObjective.{next_later}
 use Rattle.cps_theory.specs.laws.NetworkLabels.{attained_next}
 use Rattle.cps_theory.specs.laws.NodeOrder.{node_total}
@@ -35,7 +34,7 @@ use Rattle.cps_problem.specs.WellFormed.{IsWellFormed}
 use Rattle.certificate.specs.States.{State}
 use Rattle.cert_check.specs.Landings.{count, flight}
 use Rattle.cert_check.specs.States.{node_of, pairs_of, rules_of, ready, successor, covers, is_missed, misses}
-use Rattle.cert_check.specs.States.{first_missed, missed_from, digit, is_one, is_wrong_digit, is_shaped, is_misshapen}
+use Rattle.cert_check.specs.States.{first_missed, missed_from, digit, is_wrong_digit, is_shaped, is_misshapen}
 use Rattle.cert_check.specs.States.{shape_failure}
 use Rattle.cert_check.specs.Whole.{Attains, IsWholeState, AreWholeStates}
 use Rattle.cert_check.proofs.PermitTests.{permits_from}
@@ -49,11 +48,8 @@ any_not f (b ∷ ps) h = or_from (f b) (list_any f ps) (h b (inl refl)) (any_not
 
 any_no_worse : (q o : Pair) (ps : List Pair) → InPairs o ps → NoWorse o q → list_any (λ x. no_worse x q) ps ≡ true
 any_no_worse q o [] i le = absurd i
-any_no_worse q o (x ∷ ps) (inl e) le =
-    or_left (no_worse x q) (list_any (λ y. no_worse y q) ps) (ap (λ (y : Pair). no_worse y q) (sym e)
-    ∙ and_from (leb o.0 q.0) (leb o.1 q.1) (le-leb o.0 q.0 le.0) (le-leb o.1 q.1 le.1))
-any_no_worse q o (x ∷ ps) (inr i) le =
-    or_right (no_worse x q) (list_any (λ y. no_worse y q) ps) (any_no_worse q o ps i le)
+any_no_worse q o (x ∷ ps) (inl e) le = search rules
+any_no_worse q o (x ∷ ps) (inr i) le = simp (or_right, any_no_worse q o ps i le)
 
 pub none_passes : {S : Type 0} (test : S → Bool) (i : ℕ) (ss : List S) → All (λ s. test s ≡ false) ss
     → element_from test i ss ≡ None
@@ -66,10 +62,7 @@ none_passes test i (s ∷ ss) h =
 
 covers_at : (w : PatternNode) (q o : Pair) (s : State) → node_of s ≡ w → InPairs o s.pairs
     → NoWorse o q → closure.covers_at node_of pairs_of w q s ≡ true
-covers_at w q o s e i le =
-    and_from (is_eq (node_cmp (node_of s) w)) (list_any (λ x. no_worse x q) s.pairs)
-    (ap (λ (z : PatternNode). is_eq (node_cmp z w)) e ∙ ap is_eq (tied_itself node_total w))
-    (any_no_worse q o s.pairs i le)
+covers_at w q o s e i le = cc (tied_itself node_total w, any_no_worse q o s.pairs i le)
 
 covers_by : (w : PatternNode) (q o : Pair) (ss : List State) (k : ℕ) (s : State) → k < length ss
     → get_or ss k s ≡ s → node_of s ≡ w → InPairs o s.pairs → NoWorse o q → covers ss w q ≡ true
@@ -78,8 +71,7 @@ covers_by w q o [] k s lt e at i le = absurd (omega arith)
 covers_by w q o (t ∷ ss) zero s lt e at i le =
     or_left (closure.covers_at node_of pairs_of w q t) (covers ss w q) (ap (closure.covers_at node_of pairs_of w q) e
     ∙ covers_at w q o s at i le)
-covers_by w q o (t ∷ ss) (suc k) s lt e at i le =
-    or_right (closure.covers_at node_of pairs_of w q t) (covers ss w q) (covers_by w q o ss k s (omega arith) e at i le)
+covers_by w q o (t ∷ ss) (suc k) s lt e at i le = simp (or_right, covers_by w q o ss k s (omega arith) e at i le)
 
 -- ---- the shape
 
@@ -90,9 +82,7 @@ module _ (k n : ℕ) (w : PatternNode) (h : IsShaped k n w) where
       go : (b : Bool) → leb (w.0 + j) k ≡ b → b && not (digit w.1 j) ≡ false
       go false e = refl
       go true e =
-          let le = leb-true (w.0 + j) k e in
-          let at : w.0 + j - suc w.0 ≡ j - 1 = omega arith in
-          ap not (ap (λ i. get_or w.1 i false) (sym at) ∙ h.below_one (w.0 + j) (omega arith) (omega arith) le)
+          let at : w.0 + j - suc w.0 ≡ j - 1 = omega arith in search rules
 
   high_digit : (j : ℕ) → 1 ≤ j → j ≤ 2 * k → ltb (n + k) (w.0 + j) && digit w.1 j ≡ false
   high_digit j one most = go (ltb (n + k) (w.0 + j)) refl
@@ -100,37 +90,25 @@ module _ (k n : ℕ) (w : PatternNode) (h : IsShaped k n w) where
       go : (b : Bool) → ltb (n + k) (w.0 + j) ≡ b → b && digit w.1 j ≡ false
       go false e = refl
       go true e =
-          let lt = ltb-true (n + k) (w.0 + j) e in
-          let at : w.0 + j - suc w.0 ≡ j - 1 = omega arith in
-          ap (λ i. get_or w.1 i false) (sym at) ∙ h.above_count (w.0 + j) (omega arith) (omega arith) lt
+          let at : w.0 + j - suc w.0 ≡ j - 1 = omega arith in search rules
 
   no_wrong_digit : (j : ℕ) → 1 ≤ j → j < 1 + 2 * k → is_wrong_digit k n w j ≡ false
-  no_wrong_digit j one lt = or_from (leb (w.0 + j) k && not (digit w.1 j)) (ltb (n + k) (w.0 + j) && digit w.1 j)
-      (low_digit j one (omega arith)) (high_digit j one (omega arith))
+  no_wrong_digit j one lt = search (rules, low_digit, high_digit)
 
   last_placed : is_placed_by_pattern k w w.2 ≡ true
   unfolding is_placed_by_pattern
-  last_placed = elim h.latest_placed [
-    | inl le ↦ or_left (leb (w.2 + k) w.0) (get_or w.1 (w.2 + k - suc w.0) false) (le-leb (w.2 + k) w.0 le)
-    | inr d ↦ or_right (leb (w.2 + k) w.0) (get_or w.1 (w.2 + k - suc w.0) false) d
-  ]
+  last_placed = search rules
 
   pub shaped_is : is_shaped k n w ≡ true
   unfolding is_shaped
-  shaped_is =
-      and_from _ _ (and_from _ _
-      (and_from _ _ (and_from _ _
-      (and_from _ _ (and_from _ _ (le-leb w.0 n h.stage) (eq-eqb (length w.1) (2 * k) h.digits))
-      (eq-eqb (count_by is_one w.1) k h.ones))
-      (ap is_none (none_from (is_wrong_digit k n w) 1 (2 * k) no_wrong_digit))) (le-leb w.2 n h.latest))
-      (and_from _ _ (le-leb w.0 (w.2 + k) h.near.0) (le-leb w.2 (w.0 + k) h.near.1))) last_placed
+  shaped_is = search (rules, none_from, no_wrong_digit, last_placed)
 
 module _ (p : Problem) (well : IsWellFormed p) where
   abbrev opens : ℕ → ℕ → Type 0
   opens r u = (ranked p).is_open r u ≡ true
 
   pub between : (a r : ℕ) → (rules_of p).before a r ≡ true → IsRank (count p) a
-  between a r b = let t = well.between_ranks a r b in (t.0, t.1)
+  between a r b = search rules
 
   ones : (a r : ℕ) → (rules_of p).before a r ≡ true → 1 ≤ a
   ones a r b = (between a r b).0
@@ -156,54 +134,46 @@ module _ (p : Problem) (well : IsWellFormed p) where
       → ready p (latest_landing xs).0 (latest_landing xs).1 r ≡ next_from (ranked p) (latest_landing xs).0
       (latest_landing xs).1 r
   ready_after [] h r = refl
-  ready_after (x ∷ xs) h r = ready_behind x.0 x.1 r (started (latest_landing xs).0 (latest_landing xs).1 x.0 x.1 h.1)
+  ready_after (x ∷ xs) h r = search (rules, ready_behind)
 
   ready_is : (w : PatternNode) (b : Pair) (r : ℕ) → Attains p w b → ready p w.2 b.0 r ≡ next_from (ranked p) w.2 b.0 r
-  ready_is w b r a =
-      let xs = a.landings in
-      let l : (latest_landing xs).0 ≡ w.2 = sym (last_ranks xs) ∙ ap (λ (z : PatternNode). z.2) a.at in
-      let t : (latest_landing xs).1 ≡ b.0 = ap (λ (z : Pair). z.0) a.is in
-      ap₂ (λ i u. ready p i u r) (sym l) (sym t) ∙ ready_after xs a.landed r
-      ∙ ap₂ (λ i u. next_from (ranked p) i u r) l t
+  ready_is w b r a = search (rules, ready_after)
 
   -- ---- successors
 
   next_attained : (w : PatternNode) (b q : Pair) (r : ℕ) → Attains p w b → PatternPermits (rules_of p) w r
       → successor p w.2 b r ≡ Some q → Attains p (pattern_push (rules_of p) w r) q
   next_attained w b q r a m e =
-      let same : successor p w.2 b r ≡ next_pair (first_at p) (next_from (ranked p)) (cost_at p) w.2 b r =
-      ap (λ (t : ℕ). option_map (λ (u : ℕ). (u, b.1 + cost_at p r u)) (first_at p r t)) (ready_is w b r a) in
       attained_next PatternNode opens (first_at p) (next_from (ranked p)) (cost_at p) (Legal (rules_of p))
       (pattern_node (rules_of p)) (PatternPermits (rules_of p)) (pattern_push (rules_of p)) pattern_newest
       (is_first_open p) (next_later (ranked p)) (costs_rise p) (pattern_network (rules_of p) ones) w b r q a m
-      (sym same ∙ e)
+      (sym (ap (λ (t : ℕ). option_map (λ (u : ℕ). (u, b.1 + cost_at p r u)) (first_at p r t)) (ready_is w b r a)) ∙ e)
 
   -- ---- the states
 
   attained_listed : (s : State) → IsWholeState p s → (b : Pair) → InPairs b s.pairs → Attains p (node_of s) b
-  attained_listed s h b i = ((h.undominated b).0 i).attained
+  attained_listed s h b i = search rules
 
   shape_from : (s : State) (xs : List Landing) → 1 ≤ s.stage → Legal (rules_of p) (ranks xs)
       → pattern_node (rules_of p) (ranks xs) ≡ node_of s → is_misshapen p s ≡ false
-  shape_from s [] begun legal at = absurd (let e = ap (λ (z : PatternNode). z.0) at in omega arith)
+  shape_from s [] begun legal at = search rules
   shape_from s (x ∷ xs) begun legal at =
-      let h = legal_is_shaped (rules_of p) (λ r. (sound_problem p well).low r) x.0 (ranks xs) legal in
-      ap not (shaped_is p.k (count p) (node_of s) (subst (IsShaped p.k (count p)) at h))
+      let h = legal_is_shaped (rules_of p) (λ r. (sound_problem p well).low r) x.0 (ranks xs) legal in search
+      (rules, shaped_is)
 
   well_shaped : (s : State) → IsWholeState p s → is_misshapen p s ≡ false
-  well_shaped s h = let a = h.landable.1 in shape_from s a.landings h.begun a.legal a.at
+  well_shaped s h = search (rules, shape_from)
 
   pub none_misshapen : (ss : List State) → All (IsWholeState p) ss → shape_failure p ss ≡ None
-  none_misshapen ss h = none_passes (is_misshapen p) 1 ss (λ k d lt. well_shaped (get_or ss k d) (h k d lt))
+  none_misshapen ss h = simp (none_passes, well_shaped)
 
   module _ (ss : List State) (whole : AreWholeStates p ss) where
     covered : (w : PatternNode) (q : Pair) → 1 ≤ w.0 → Attains p w q → covers ss w q ≡ true
     covered w q one a =
         let s = whole.every w q one a in
         let i = s.1 in
-        let h = subst (IsWholeState p) i.2 (whole.each i.0 s.0 i.1) in
-        let o = h.covers q (subst (λ (z : PatternNode). Attains p z q) (sym s.2) a) in
-        covers_by w q o.0 ss i.0 s.0 i.1 i.2 s.2 o.1 o.2
+        let o = (subst (IsWholeState p) i.2 (whole.each i.0 s.0 i.1)).covers q
+        (subst (λ (z : PatternNode). Attains p z q) (sym s.2) a) in search (rules, covers_by)
 
     not_missed : (w : PatternNode) (b : Pair) (r : ℕ) → Attains p w b → PatternPermits (rules_of p) w r
         → is_missed p ss w r b ≡ false
@@ -212,7 +182,7 @@ module _ (p : Problem) (well : IsWellFormed p) where
         go : (o : Option Pair) → successor p w.2 b r ≡ o
             → closure.is_not_covered node_of pairs_of ss (pattern_push (rules_of p) w r) o ≡ false
         go None e = refl
-        go (Some q) e = ap not (covered (pattern_push (rules_of p) w r) q (omega arith) (next_attained w b q r a m e))
+        go (Some q) e = search (rules, covered, next_attained)
 
     misses_none : (w : PatternNode) (pairs : List Pair) → ((b : Pair) → InPairs b pairs → Attains p w b)
         → (r : ℕ) → IsRank (count p) r → misses p ss w pairs r ≡ false
@@ -220,21 +190,15 @@ module _ (p : Problem) (well : IsWellFormed p) where
       where
         go : (t : Bool) → permits_next (rules_of p) w r ≡ t → t && list_any (is_missed p ss w r) pairs ≡ false
         go false e = refl
-        go true e = any_not (is_missed p ss w r) pairs
-            (λ b i. not_missed w b r (a b i) (permits_from (rules_of p) between w r rank e))
+        go true e = simp (any_not, not_missed, permits_from, between)
 
     first_missed_none : (w : PatternNode) (pairs : List Pair) → ((b : Pair) → InPairs b pairs → Attains p w b)
         → first_missed p ss w pairs ≡ None
     unfolding closure.first_missed
-    first_missed_none w pairs a =
-        none_from (misses p ss w pairs) 1 (count p) (λ r one lt. misses_none w pairs a r (one, omega arith))
+    first_missed_none w pairs a = search (rules, none_from, misses_none)
 
     pub start_misses_none : first_missed p ss (pattern_node (rules_of p) []) ((0, 0) ∷ []) ≡ None
-    start_misses_none = first_missed_none (pattern_node (rules_of p) []) ((0, 0) ∷ []) at_start
-      where
-        at_start : (b : Pair) → InPairs b ((0, 0) ∷ []) → Attains p (pattern_node (rules_of p) []) b
-        at_start b (inl e) = record { landings = []; legal = tt; landed = tt; at = refl; is = sym e }
-        at_start b (inr i) = absurd i
+    start_misses_none = search (rules, first_missed_none)
 
     pub states_miss_none : (i : ℕ) (rest : List State) → All (IsWholeState p) rest → missed_from p ss i rest ≡ None
     unfolding closure.missed_from

@@ -1,5 +1,6 @@
 -- A problem has one list of states that leaves nothing out.
-use Rattle.std.proofs.Common.{◌≡◌, inl, inr, true, List, [], ◌∷◌, refl, sym, ap, subst, ◌∙◌}
+use Rattle.std.proofs.Common.{arith, rules}
+use Rattle.std.proofs.Common.{◌≡◌, true, List, [], ◌∷◌, refl, sym, subst}
 use Rattle.std.specs.Ordering.{is_lt}
 use Rattle.std.specs.declared.cmp.Ordering.{Ordering}
 use Rattle.std.specs.declared.cmp.Ordering.TheVariants.{Less, Equal, Greater}
@@ -32,15 +33,12 @@ before_trans : (a b c : State) → Before a b → Before b c → Before a c
 before_trans a b c h k = node_total.trans (node_of a) (node_of b) (node_of c) h k
 
 one_way : (s t : State) → Before s t → Before t s → ⊥
-one_way s t h k = let e = before_trans s t s h k in let same = tied_itself node_total (node_of s) in absurd (cc)
+one_way s t h k = cc (before_trans s t s h k, tied_itself node_total (node_of s))
 
 pub ascending : (ss : List State) → AreAscending ss → AscendBy (λ s t. node_cmp (node_of s) (node_of t) ≡ Less) ss
 ascending [] h = tt
 ascending (a ∷ []) h = (λ b i. absurd i, tt)
-ascending (a ∷ b ∷ rest) h =
-    let lt : Before a b = less_of (node_cmp (node_of a) (node_of b)) h.0 in
-    let more = ascending (b ∷ rest) h.1 in
-    (λ c i. elim i [ inl e ↦ subst (Before a) (sym e) lt | inr j ↦ before_trans a b c lt (more.0 c j) ], more)
+ascending (a ∷ b ∷ rest) h = search (rules, less_of, before_trans, ascending (b ∷ rest) h.1)
 
 -- a node and its pairs as a state
 abbrev state_at : PatternNode → List Pair → State
@@ -55,17 +53,14 @@ module _ (p : Problem) where
   one_state : (s t : State) → IsWholeState p s → IsWholeState p t → node_of s ≡ node_of t → s ≡ t
   one_state s t h k e =
       let pairs = staircase_same s.pairs t.pairs (rising_staircase s.pairs h.rising) (rising_staircase t.pairs k.rising)
-      (moved s t h k e) (moved t s k h (sym e)) in
-      ap (λ (w : PatternNode). state_at w s.pairs) e ∙ ap (state_at (node_of t)) pairs
+      (moved s t h k e) (moved t s k h (sym e)) in search rules
 
   found : (ss ts : List State) → AreWholeStates p ss → AreWholeStates p ts → (s : State) → Member s ss → Member s ts
   found ss ts h k s i =
       let here = all_at (IsWholeState p) ss h.each s i in
       let t = k.every (node_of s) here.landable.0 here.begun here.landable.1 in
       let among = contains_member ts t.0 t.1 in
-      let there = all_at (IsWholeState p) ts k.each t.0 among in
-      subst (λ (x : State). Member x ts) (one_state t.0 s there here t.2) among
+      let there = all_at (IsWholeState p) ts k.each t.0 among in grind (arith, one_state)
 
   pub whole_is_unique : (ss ts : List State) → AreWholeStates p ss → AreWholeStates p ts → ss ≡ ts
-  whole_is_unique ss ts h k = one_list Before one_way ss ts (ascending ss h.ascending) (ascending ts k.ascending)
-      (found ss ts h k) (found ts ss k h)
+  whole_is_unique ss ts h k = search (rules, one_list, one_way, ascending, found)

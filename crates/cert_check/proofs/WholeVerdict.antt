@@ -1,14 +1,12 @@
 -- A whole certificate is accepted.
-use Rattle.std.proofs.Common.{◌≡◌, ℕ, Option, None, List, refl, ap, ap₂, ◌∙◌}
-use Rattle.std.specs.Option.{option_or}
+use Rattle.std.proofs.Common.{rules}
+use Rattle.std.proofs.Common.{◌≡◌, None, List, refl}
 use Rattle.landing_rules.specs.Problem.{Problem}
-use Rattle.cps_theory.specs.FirstFound.{with_number}
 use Rattle.cps_problem.specs.WellFormed.{IsWellFormed}
 use Rattle.certificate.specs.declared.certificate.Claim.{Claim}
 use Rattle.certificate.specs.declared.certificate.Claim.TheVariants as claim
 use Rattle.certificate.specs.States.{State}
 use Rattle.certificate.specs.Reading.{Cert}
-use Rattle.cert_check.specs.declared.verdict.Reason.{Reason}
 use Rattle.cert_check.specs.Landings.{Landings}
 use Rattle.cert_check.specs.States.{successor_failure, final_failure}
 use Rattle.cert_check.specs.Verdict.{flights_reason, claim_reason, state_reason, failure, verdict_by, verdict_of}
@@ -20,8 +18,7 @@ use Rattle.cert_check.proofs.WholeLandings.{no_reason}
 
 module _ (p : Problem) (well : IsWellFormed p) where
   none_missed : (ss : List State) → AreWholeStates p ss → successor_failure p ss ≡ None
-  none_missed ss h = ap₂ (λ (a : Option ℕ) (b : Option (ℕ × ℕ)). option_or (with_number 0 a) b)
-      (start_misses_none p well ss h) (states_miss_none p well ss h 1 ss h.each)
+  none_missed ss h = search (rules, start_misses_none, states_miss_none)
 
   final_none : (c : Claim) (ls : Landings) (ss : List State) → IsAnswered p c ls → AreWholeStates p ss
       → final_failure p c ss ≡ None
@@ -31,19 +28,16 @@ module _ (p : Problem) (well : IsWellFormed p) where
   states_pass : (c : Claim) (ls : Landings) (ss : List State) → IsAnswered p c ls → AreWholeStates p ss
       → state_reason p c ss ≡ None
   unfolding state_reason
-  states_pass c ls ss a h = rw (none_misshapen p well ss h.each, none_missed ss h, final_none c ls ss a h) refl
+  states_pass c ls ss a h = search (rules, none_misshapen, none_missed, final_none)
 
   landings_pass : (c : Claim) (ls : Landings) → IsAnswered p c ls → (flights_reason p c ls ≡ None)
       × (claim_reason p c ls ≡ None)
   landings_pass (claim.Optimal v) ls a = no_reason p ls v a
-  landings_pass claim.Infeasible ls a = (ap (flights_reason p claim.Infeasible) a.0, refl)
+  landings_pass claim.Infeasible ls a = search rules
 
   none_fails : (c : Cert) → IsWhole p c → failure p c ≡ None
   unfolding failure
-  none_fails c h =
-      let l = landings_pass c.claim c.landings h.answer in
-      let s = states_pass c.claim c.landings c.states h.answer h.states in
-      ap₂ (λ (a b : Option Reason). option_or a (option_or b (state_reason p c.claim c.states))) l.0 l.1 ∙ s
+  none_fails c h = search (rules, landings_pass, states_pass)
 
   as_claimed : (c : Claim) → verdict_by c None ≡ claimed c
   as_claimed (claim.Optimal v) = refl
@@ -51,4 +45,4 @@ module _ (p : Problem) (well : IsWellFormed p) where
 
   pub whole_accepted : (c : Cert) → IsWhole p c → verdict_of p c ≡ claimed c.claim
   unfolding verdict_of
-  whole_accepted c h = ap (verdict_by c.claim) (none_fails c h) ∙ as_claimed c.claim
+  whole_accepted c h = simp none_fails

@@ -1,4 +1,5 @@
 -- States that hold all entries of the stages leave nothing out.
+use Rattle.std.proofs.Common.{rules}
 use Rattle.std.proofs.Common.{◌≡◌, ℕ, ◌≤◌, inl, inr, List, length, arith}
 use Rattle.std.specs.Prelude.{ℤ}
 use Rattle.std.proofs.lemmas.Bool.{cases_lt}
@@ -28,5 +29,4 @@ module _ (p : Problem) (end : EndWithFlights p) (entries : EntriesKeepNodes p) (
   ]
 
 pub stages_make_states : (p : Problem) → EndWithFlights p → EntriesKeepNodes p → StagesMakeStates p
-stages_make_states p end entries stages lists ss are all =
-    entries_are_whole p (IsEntryOf p stages lists) (keep_all p end entries stages lists are) ss all
+stages_make_states p end entries stages lists ss are all = search (rules, entries_are_whole, keep_all)

@@ -1,5 +1,6 @@
 -- The entries of a stage keep the pairs of its nodes.
-use Rattle.std.proofs.Common.{◌≡◌, ℕ, ◌≤◌, List, [], length, sym, ap, ap₂, subst, ◌∙◌, arith}
+use Rattle.std.proofs.Common.{rules}
+use Rattle.std.proofs.Common.{◌≡◌, ℕ, ◌≤◌, List, [], length, sym, ap, subst, ◌∙◌, arith}
 use Rattle.std.specs.Prelude.{ℤ, pos, ◌↔◌}
 use Rattle.std.proofs.lemmas.List.{get_or_default}
 use Rattle.landing_rules.specs.Problem.{Problem}
@@ -22,7 +23,7 @@ use Rattle.cps_network.specs.Lists.{node_at}
 use Rattle.cps_network.specs.Nodes.{Node, node_of, latest, IsWindowNetwork, WindowsTellNodes}
 use Rattle.cps_network.specs.Pairs.{HoldsCosts}
 use Rattle.cps_network.specs.WindowRanks.{TellTheirRanks}
-use Rattle.cert_check.specs.PlacedBits.{digits_of, PatternOfBitsLaw}
+use Rattle.cert_check.specs.PlacedBits.{PatternOfBitsLaw}
 use Rattle.cert_check.specs.Whole.{Attains}
 use Rattle.cert_writer.specs.StageEntries.{IsEntry, PlacedTellNodes, EntriesKeepNodes, EndWithFlights}
 
@@ -39,52 +40,37 @@ end_with_flights p d q a =
 -- the set of a prefix's window gives the node of the prefix
 pub placed_tell : (p : Problem) → PatternOfBitsLaw → IsWindowNetwork p → TellTheirRanks p → PlacedTellNodes p
 placed_tell p bits net tells stage placed xs told rs legal at =
-    let one_in = λ (r : ℕ) (i : In r rs).
-    (in_from_one (ranked p).rules r rs (legal_each_fits (ranked p).rules rs legal) i).0 in
     let here = λ (r : ℕ) (one : 1 ≤ r). subst (λ (n : Node). IsPlaced n.1 (pos n.0) (pos r) ↔ In r rs) at
     (tells rs r legal one) in
     let whole = bits (ranked p).rules rs placed
     (λ r one. (λ b. (here r one).0 ((told r).0 b).1, λ i. (told r).1 (one, (here r one).1 i))) in
     let long : length rs ≡ stage = ap (λ (n : Node). n.0) at in
-    let last : last_rank rs ≡ latest (stage, xs) = sym (net.newest_is rs legal) ∙ ap latest at in
-    whole ∙ ap₂ (λ (n m : ℕ). (n, digits_of p.k n placed, m)) long last
+    let last : last_rank rs ≡ latest (stage, xs) = sym (net.newest_is rs legal) ∙ ap latest at in cc
 
 module _ (p : Problem) (sound : SoundProblem (ranked p)) (tell : WindowsTellNodes p) (stage : ℕ × List (List ℤ))
     (lists : List (List Pair)) (h : HoldsCosts p stage lists) (d : PatternNode) (at : d.0 ≡ stage.0) where
   of_entry : (q : Pair) → IsEntry p stage lists d q → Attains p d q
   of_entry q e =
-      let w = h.costs.pairs e.place e.within in
-      let a = ((w.undominated q).0 e.has).attained in
-      record {
-        landings = a.landings;
-        legal = a.legal;
-        landed = a.landed;
-        at = e.node (ranks a.landings) a.legal a.at;
-        is = a.is;
-      }
+      let a = (((h.costs.pairs e.place e.within).undominated q).0 e.has).attained in search rules
 
   covered : (q : Pair) → Attains p d q → (o : Pair) × IsEntry p stage lists d o × NoWorse o q
   covered q a =
       let rs = ranks a.landings in
       let xs = (node_of p.k rs).1 in
-      let long : length rs ≡ stage.0 = ap (λ (w : PatternNode). w.0) a.at ∙ at in
-      let window : node_of p.k rs ≡ (stage.0, xs) = ap (λ (n : ℕ). (n, xs)) long in
+      let window : node_of p.k rs ≡ (stage.0, xs) = ap (λ (n : ℕ). (n, xs)) (ap (λ (w : PatternNode). w.0) a.at ∙ at) in
       let place = (h.landable xs).1
       (q, record { landings = a.landings; legal = a.legal; landed = a.landed; at = window; is = a.is }) in
       let i = place.0 in
-      let same : xs ≡ node_at stage.1 i = sym (get_or_default stage.1 i [] xs place.1 ∙ place.2) in
-      let there : node_of p.k rs ≡ (stage.0, node_at stage.1 i) = window ∙ ap (λ (ys : List ℤ). (stage.0, ys)) same in
+      let there : node_of p.k rs ≡ (stage.0, node_at stage.1 i) = window ∙ ap (λ (ys : List ℤ). (stage.0, ys))
+      (sym (get_or_default stage.1 i [] xs place.1 ∙ place.2)) in
       let c = (h.costs.pairs i place.1).covers q
       (record { landings = a.landings; legal = a.legal; landed = a.landed; at = there; is = a.is }) in
       let node = λ (os : List ℕ) (legal : Legal (ranked p).rules os)
       (e : node_of p.k os ≡ (stage.0, node_at stage.1 i)).
-      one_pattern p sound os rs (tell os rs legal a.legal (e ∙ sym there)) ∙ a.at in
-      (c.0, record { place = i; within = place.1; node = node; has = c.1 }, c.2)
+      one_pattern p sound os rs (tell os rs legal a.legal (e ∙ sym there)) ∙ a.at in search rules
 
   entries_of : Kept (Attains p d) (IsEntry p stage lists d)
-  entries_of = record { attained = of_entry; covers = covered }
+  entries_of = search (rules, of_entry, covered)
 
 pub entries_keep : (p : Problem) → IsWellFormed p → WindowsTellNodes p → EntriesKeepNodes p
-entries_keep p wf tell stage lists h d at =
-    entries_of p (sound_ranked p wf.table (λ q r b. let a = wf.between_ranks q r b in
-    (a.0, a.1))) tell stage lists h d at
+entries_keep p wf tell stage lists h d at = search (rules, entries_of, sound_ranked)

@@ -1,9 +1,11 @@
 -- One window more is gathered.
+use Rattle.std.proofs.Common.{rules}
+use Rattle.std.proofs.lemmas.Grind.{common_steps}
 use Rattle.std.proofs.Common.{◌≡◌, ℕ, zero, suc, ◌+◌, ◌*◌, ◌^◌, ◌<◌, ◌≤◌, ◌⊎◌, inl, inr, List, [], ◌∷◌, ◌++◌, length}
-use Rattle.std.proofs.Common.{length-append, set, Bool, Option, replicate, refl, sym, ap, ap₂, subst, ◌∙◌, arith}
+use Rattle.std.proofs.Common.{set, Bool, Option, replicate, refl, sym, ap, ap₂, subst, ◌∙◌, arith}
 use Rattle.std.specs.Prelude.{ℤ, All}
 use Rattle.std.proofs.lemmas.Bool.{cases_eq}
-use Rattle.std.proofs.lemmas.List.{get_or_append_left, get_or_default, get_or_push}
+use Rattle.std.proofs.lemmas.List.{get_or_default}
 use Rattle.landing_rules.specs.Problem.{Problem}
 use Rattle.cps_theory.specs.LandingTrail.{cost_of, ranks}
 use Rattle.cps_theory.specs.Labels.{InPairs, NoWorse, Pair}
@@ -12,10 +14,8 @@ use Rattle.cps_theory.specs.Patterns.{IsShaped, PatternNode, pattern_node}
 use Rattle.cps_theory.specs.laws.LabelDominance.{no_worse_trans}
 use Rattle.cps_theory.specs.laws.PatternShape.{legal_is_shaped}
 use Rattle.cps_theory.specs.Separation.{Landing}
-use Rattle.landing_joint.specs.RankedProblem.{ranked, no_waiting, cost_at, cost_by}
-use Rattle.landing_rules.specs.declared.objective.Objective.{Objective}
+use Rattle.landing_joint.specs.RankedProblem.{ranked, cost_at}
 use Rattle.landing_rules.specs.declared.objective.Objective.TheVariants.{Makespan}
-use Rattle.cps_theory.specs.RankLists.{of_rank}
 use Rattle.cps_network.specs.Landable.{IsLandable}
 use Rattle.cps_network.specs.Lists.{node_at}
 use Rattle.cps_network.specs.Nodes.{Node, latest}
@@ -36,7 +36,7 @@ use Rattle.cert_writer.proofs.SlotLemmas.{one_slot, slot_node}
 -- a legal prefix of some ranks has the shape of a node
 pub prefix_shape : (p : Problem) (rs : List ℕ) → 1 ≤ length rs → Legal (ranked p).rules rs
     → IsShaped p.k (length p.flights) (pattern_node (ranked p).rules rs) × (1 ≤ (pattern_node (ranked p).rules rs).2)
-prefix_shape p [] one legal = absurd (omega (arith, one))
+prefix_shape p [] one legal = search rules
 prefix_shape p (x ∷ rs) one legal =
     (legal_is_shaped (ranked p).rules (λ r. omega arith) x rs legal, legal.0.fits.from_one)
 
@@ -44,15 +44,15 @@ prefix_shape p (x ∷ rs) one legal =
 pub window_shape : (p : Problem) (stage : ℕ) (xs : List ℤ) (d : PatternNode) → 1 ≤ stage → IsLandable p stage xs
     → IsWindowOf p stage xs d → IsShaped p.k (length p.flights) d × (1 ≤ d.2)
 window_shape p stage xs d one l of =
-    let a = l.1 in
-    let long : length (ranks a.landings) ≡ stage = ap (λ (n : Node). n.0) a.at in
-    subst (λ w. IsShaped p.k (length p.flights) w × (1 ≤ w.2)) (of (ranks a.landings) a.legal a.at)
-    (prefix_shape p (ranks a.landings) (omega (arith, long, one)) a.legal)
+    let a = l.1 in grind (
+      arith,
+      prefix_shape p (ranks a.landings) (omega (arith, (ap (λ (n : Node). n.0) a.at), one))
+          a.legal,
+    )
 
 pub window_node : (p : Problem) (stage : ℕ) (xs : List ℤ) (d e : PatternNode) → IsLandable p stage xs
     → IsWindowOf p stage xs d → IsWindowOf p stage xs e → d ≡ e
-window_node p stage xs d e l of os = let a = l.1 in sym (of (ranks a.landings) a.legal a.at)
-    ∙ os (ranks a.landings) a.legal a.at
+window_node p stage xs d e l of os = search rules
 
 pub place_landable : (p : Problem) (stage : ℕ × List (List ℤ)) (lists : List (List Pair)) → HoldsCosts p stage lists
     → (i : ℕ) → i < length stage.1 → IsLandable p stage.0 (node_at stage.1 i)
@@ -73,30 +73,26 @@ pub node_near : (p : Problem) → PlacedTellNodes p → (s : ℕ × List (List �
     → (stage ≤ last + k) × (last ≤ stage + k)
 node_near p tell s lists h stage at one i k placed last lt kk told is =
     let w = window_shape p s.0 (node_at s.1 i) (stage, digits_of k stage placed, last) (omega (arith, at, one))
-    (place_landable p s lists h i lt) (window_here p tell s stage at i k placed last kk told is) in
-    let near = w.0.near in
-    let a = near.0 in
-    let b = near.1 in
-    (omega (arith, a, kk), omega (arith, b, kk))
+    (place_landable p s lists h i lt) (window_here p tell s stage at i k placed last kk told is) in omega arith
 
 -- ---- lists in slots
 
 set_same : (xs : List (List Pair)) (i : ℕ) (y : List Pair) → i < length xs → list_at (set xs i y) i ≡ y
-set_same [] i y lt = absurd (omega (arith, lt))
+set_same [] i y lt = search rules
 set_same (x ∷ xs) zero y lt = refl
-set_same (x ∷ xs) (suc i) y lt = set_same xs i y (omega (arith, lt))
+set_same (x ∷ xs) (suc i) y lt = search rules
 
 set_other : (xs : List (List Pair)) (i j : ℕ) (y : List Pair) → (j ≡ i → ⊥) → list_at (set xs i y) j ≡ list_at xs j
 set_other [] i j y ne = refl
 set_other (x ∷ xs) zero zero y ne = absurd (ne refl)
 set_other (x ∷ xs) zero (suc j) y ne = refl
 set_other (x ∷ xs) (suc i) zero y ne = refl
-set_other (x ∷ xs) (suc i) (suc j) y ne = set_other xs i j y (λ e. ne (ap suc e))
+set_other (x ∷ xs) (suc i) (suc j) y ne = search rules
 
 set_long : (xs : List (List Pair)) (i : ℕ) (y : List Pair) → length (set xs i y) ≡ length xs
 set_long [] i y = refl
 set_long (x ∷ xs) zero y = refl
-set_long (x ∷ xs) (suc i) y = ap suc (set_long xs i y)
+set_long (x ∷ xs) (suc i) y = search rules
 
 module _ (p : Problem) (stage : ℕ × List (List ℤ)) (lists : List (List Pair)) where
   module _ (h : HoldsCosts p stage lists) (count : ℕ) (within : count < length stage.1) (slots : List (List Pair))
@@ -107,7 +103,7 @@ module _ (p : Problem) (stage : ℕ × List (List ℤ)) (lists : List (List Pair
       ⊎ InPairs q (list_at lists count) → (o : Pair) × InPairs o list × NoWorse o q)
       (ranged : All IsPairInRange (list_at slots slot) → All IsPairInRange list) where
     lt : slot < length slots
-    lt = let a = has.within in let b = g.room in omega (arith, a, b)
+    lt = omega arith
 
     weaker : (d : PatternNode) (q : Pair) → IsEntryBefore p stage lists count d q
         → IsEntryBefore p stage lists (count + 1) d q
@@ -186,21 +182,7 @@ pub one_slot_more : (k stage : ℕ) (list : List (List ℤ)) (firsts : List ℕ)
     → HaveSlots k stage list firsts count slots
     → IsSlotOf k stage (node_at list (told_at firsts count)) slot
     → HaveSlots k stage list firsts (count + 1) (slots ++ slot ∷ [])
-one_slot_more k stage list firsts count slots slot h is = record {
-  long = length-append slots (slot ∷ []) ∙ ap (λ (n : ℕ). n + 1) h.long;
-  each = λ j lt. elim (cases_eq j count) [
-    | inl e ↦
-        let new : told_at (slots ++ slot ∷ []) j ≡ slot =
-        ap (told_at (slots ++ slot ∷ [])) e ∙ get_or_push slots slot 0 count h.long in
-        subst (IsSlotOf k stage (node_at list (told_at firsts j))) (sym new)
-        (subst (λ (i : ℕ). IsSlotOf k stage (node_at list (told_at firsts i)) slot) (sym e) is)
-    | inr ne ↦
-        let l : j < count = omega (arith, lt, ne) in
-        let old : told_at (slots ++ slot ∷ []) j ≡ told_at slots j =
-        get_or_append_left slots (slot ∷ []) 0 j (let a = h.long in omega (arith, l, a)) in
-        subst (IsSlotOf k stage (node_at list (told_at firsts j))) (sym old) (h.each j l)
-  ];
-}
+one_slot_more k stage list firsts count slots slot h is = grind (arith, common_steps)
 
 -- the earliest pairs of the first nodes, each in its slot
 pub record AreEarliest (slots : List ℕ) (least : List Pair) (room count : ℕ) (pairs : List (List Pair)) : Type 0 where
@@ -221,12 +203,7 @@ long_none zero = refl
 long_none (suc n) = ap suc (long_none n)
 
 pub no_earliest : (slots : List ℕ) (least : List Pair) (room : ℕ) → AreEarliest slots least room 0 (replicate room [])
-no_earliest slots least room = record {
-  room_is = long_none room;
-  found = λ slot q i. absurd (subst (InPairs q) (none_in room slot) i);
-  covers = λ j lt. absurd (omega (arith, lt));
-  in_range = λ slot. subst (All IsPairInRange) (sym (none_in room slot)) (λ k d lt. absurd (omega (arith, lt)));
-}
+no_earliest slots least room = grind (arith, common_steps)
 
 module _ (slots : List ℕ) (least : List Pair) (room count : ℕ) (pairs : List (List Pair))
     (m : AreEarliest slots least room count pairs) (inside : told_at slots count < length pairs)
@@ -238,11 +215,11 @@ module _ (slots : List ℕ) (least : List Pair) (room count : ℕ) (pairs : List
   slot = told_at slots count
 
   here : (s : ℕ) → s ≡ slot → list_at (set pairs slot list) s ≡ list
-  here s e = ap (list_at (set pairs slot list)) e ∙ set_same pairs slot list inside
+  here s e = search rules
 
   old_found : (q : Pair) (s : ℕ) → InPairs q (list_at pairs s) → (j : ℕ) × (j < count + 1)
       × (told_at slots j ≡ s) × (q ≡ pair_at least j)
-  old_found q s i = let f = m.found s q i in (f.0, (let a = f.1 in omega (arith, a)), f.2, f.3)
+  old_found q s i = let f = m.found s q i in search rules
 
   pub one_earliest : AreEarliest slots least room (count + 1) (set pairs slot list)
   one_earliest = record {
@@ -284,20 +261,13 @@ module _ (slots : List ℕ) (least : List Pair) (room count : ℕ) (pairs : List
   }
     where
       before : (j : ℕ) → j < count + 1 → (told_at slots j ≡ slot → ⊥) → j < count
-      before j lt ne = elim (cases_eq j count) [
-        | inl e ↦ absurd (ne (ap (told_at slots) e))
-        | inr other ↦
-            omega (arith, lt, other)
-      ]
+      before j lt ne = search rules
 
 -- ---- the pairs of a problem of the makespan cost nothing
 
 no_cost : (p : Problem) → p.objective ≡ Makespan → (xs : List Landing) → cost_of (cost_at p) xs ≡ 0
 no_cost p e [] = refl
-no_cost p e (x ∷ xs) =
-    let a = no_cost p e xs in
-    let b : cost_at p x.0 x.1 ≡ 0 = ap (λ (o : Objective). cost_by o (of_rank no_waiting p.flights x.0) x.1) e in
-    omega (arith, a, b)
+no_cost p e (x ∷ xs) = cc (no_cost p e xs)
 
 module _ (p : Problem) (tell : PlacedTellNodes p) (held : Option HeldProblem) (stage : ℕ)
     (number : (stage_in held stage).0 ≡ stage) (h : HoldsCosts p (stage_in held stage) (lists_in held stage))
@@ -325,7 +295,7 @@ module _ (p : Problem) (tell : PlacedTellNodes p) (held : Option HeldProblem) (s
 
   has_window : (i : ℕ) (lt : i < length s.1) → HasSlot p.k (node_of_window i lt) (told_at slots (told_at put.places i))
   unfolding node_of_window
-  has_window i lt = (window_slot i lt).has
+  has_window i lt = search rules
 
   at_window : (i : ℕ) (lt : i < length s.1) → (node_of_window i lt).0 ≡ s.0
   unfolding node_of_window
@@ -347,11 +317,10 @@ module _ (p : Problem) (tell : PlacedTellNodes p) (held : Option HeldProblem) (s
   module _ (makespan : p.objective ≡ Makespan) (least : List Pair) (l : AreLeastIn held stage put least)
       (pairs : List (List Pair)) (m : AreEarliest slots least (8 * 2 ^ (2 * p.k)) (length put.firsts) pairs) where
     free : (i : ℕ) → i < length s.1 → (q : Pair) → InPairs q (list_at all_lists i) → q.1 ≡ 0
-    free i lt q has = let a = (((h.costs.pairs i lt).undominated q).0 has).attained in ap (λ (z : Pair). z.1) (sym a.is)
-        ∙ no_cost p makespan a.landings
+    free i lt q has = let a = (((h.costs.pairs i lt).undominated q).0 has).attained in search (rules, no_cost)
 
     inside : (j : ℕ) (q : Pair) (is : IsPairAt all_lists put.places j q) → is.window < length s.1
-    inside j q is = let a = is.within in let b = are.together.long in omega (arith, a, b)
+    inside j q is = omega arith
 
     -- the least of a node is a pair of one of its windows
     least_is : (j : ℕ) → j < length put.firsts → (i : ℕ) × (i < length s.1) × (told_at put.places i ≡ j)
@@ -359,15 +328,9 @@ module _ (p : Problem) (tell : PlacedTellNodes p) (held : Option HeldProblem) (s
     least_is j lt =
         let a = (l.each j lt).earliest in
         let b = (l.each j lt).cheapest in
-        let free_a = free a.1.window (inside j a.0 a.1) a.0 a.1.has in
-        let free_b = free b.1.window (inside j b.0 b.1) b.0 b.1.has in
-        let same : a.0 ≡ pair_at least j = ap₂ (λ (x y : ℕ). (x, y)) a.2 (free_a ∙ sym free_b ∙ b.2) in (
-          a.1.window,
-          inside j a.0 a.1,
-          a.1.of_node,
-          subst
-              (λ (q : Pair). InPairs q (list_at all_lists a.1.window)) same a.1.has,
-        )
+        let same : a.0 ≡ pair_at least j = ap₂ (λ (x y : ℕ). (x, y)) a.2
+        ((free a.1.window (inside j a.0 a.1) a.0 a.1.has) ∙ sym (free b.1.window (inside j b.0 b.1) b.0 b.1.has) ∙
+        b.2) in search rules
 
     pub earliest_gathered : AreGathered p s all_lists (length s.1) pairs
     earliest_gathered = record {

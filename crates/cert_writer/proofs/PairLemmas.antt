@@ -1,13 +1,14 @@
 -- Lists of pairs with one pair more.
-use Rattle.std.proofs.Common.{◌≡◌, ℕ, zero, suc, ◌<◌, ◌⊎◌, inl, inr, List, [], ◌∷◌, length, set, get_or, true, leb}
-use Rattle.std.proofs.Common.{refl, sym, subst, ◌∙◌, le_refl, arith}
+use Rattle.std.proofs.Common.{rules}
+use Rattle.std.proofs.lemmas.Grind.{common_steps}
+use Rattle.std.proofs.Common.{◌≡◌, ℕ, zero, suc, ◌<◌, ◌⊎◌, inl, inr, List, [], ◌∷◌, length, set, get_or, true}
+use Rattle.std.proofs.Common.{refl, sym, subst, ◌∙◌, arith}
 use Rattle.std.specs.Prelude.{All}
 use Rattle.std.proofs.lemmas.List.{get_or_default}
 use Rattle.cps_theory.specs.Labels.{InPairs, NoWorse, Pair}
 use Rattle.std.specs.List.{list_all}
 use Rattle.std.specs.List.Sorted.{IsPermutation, IsSorted}
 use Rattle.std.specs.Ordering.{nat_cmp, ordering_then}
-use Rattle.std.proofs.lemmas.Bool.{and_from, le-leb}
 use Rattle.std.proofs.lemmas.List.Elements.{All-head, All-tail}
 use Rattle.cps_theory.specs.UndominatedPairs.{sweep}
 use Rattle.cps_theory.specs.laws.Staircases.{sweep_covers, sweep_staircase, sweep_subset}
@@ -17,10 +18,9 @@ use Rattle.cert_writer.specs.Gathered.{IsPairInRange}
 use Rattle.cps_network.specs.shared.PairLists.{all_in, in_all, in_permuted, permuted_in, sorted_in_order}
 use Rattle.cps_network.specs.Pairs.{pair_at}
 use Rattle.cps_network.specs.shared.PairSteps.{at_in}
-use Rattle.landing_rules.specs.Rules.{last_second}
 
 pub itself : (q : Pair) → NoWorse q q
-itself q = (le_refl q.0, le_refl q.1)
+itself q = omega arith
 
 -- a pair in place of the last one
 pub in_replaced : (xs : List Pair) (i : ℕ) (p q : Pair) → InPairs q (set xs i p) → InPairs q xs ⊎ (q ≡ p)
@@ -28,14 +28,14 @@ in_replaced [] i p q h = absurd h
 in_replaced (x ∷ xs) zero p q (inl e) = inr e
 in_replaced (x ∷ xs) zero p q (inr h) = inl (inr h)
 in_replaced (x ∷ xs) (suc i) p q (inl e) = inl (inl e)
-in_replaced (x ∷ xs) (suc i) p q (inr h) = elim (in_replaced xs i p q h) [ inl a ↦ inl (inr a) | inr e ↦ inr e ]
+in_replaced (x ∷ xs) (suc i) p q (inr h) = grind (arith, in_replaced xs i p q h)
 
 pub replaced_in : (xs : List Pair) (i : ℕ) (p q : Pair) → InPairs q xs → InPairs q (set xs i p) ⊎ (q ≡ pair_at xs i)
 replaced_in [] i p q h = absurd h
 replaced_in (x ∷ xs) zero p q (inl e) = inr e
 replaced_in (x ∷ xs) zero p q (inr h) = inl (inr h)
 replaced_in (x ∷ xs) (suc i) p q (inl e) = inl (inl e)
-replaced_in (x ∷ xs) (suc i) p q (inr h) = elim (replaced_in xs i p q h) [ inl a ↦ inl (inr a) | inr e ↦ inr e ]
+replaced_in (x ∷ xs) (suc i) p q (inr h) = grind (arith, replaced_in xs i p q h)
 
 pub new_in : (xs : List Pair) (i : ℕ) (p : Pair) → i < length xs → InPairs p (set xs i p)
 new_in [] i p lt = absurd (omega arith)
@@ -47,16 +47,14 @@ pub read_in : (xs : List Pair) (i : ℕ) (x : Pair) → i < length xs → x ≡ 
 read_in xs i x lt e = at_in xs i x lt (get_or_default xs i (0, 0) x lt ∙ sym e)
 
 pub read_same : (xs : List Pair) (i : ℕ) (x : Pair) → i < length xs → x ≡ get_or xs i x → pair_at xs i ≡ x
-read_same xs i x lt e = get_or_default xs i (0, 0) x lt ∙ sym e
+read_same xs i x lt e = grind (arith, common_steps)
 
 -- ---- the best of pairs
 
 ranged_all : (xs : List Pair) → All IsPairInRange xs → list_all is_pair xs ≡ true
 ranged_all [] h = refl
 ranged_all (x ∷ xs) h =
-    let r = All-head IsPairInRange x xs h in
-    and_from (is_pair x) (list_all is_pair xs) (and_from (leb x.0 last_second) (leb x.1 4294967295)
-    (le-leb x.0 last_second r.0) (le-leb x.1 4294967295 r.1)) (ranged_all xs (All-tail IsPairInRange x xs h))
+    let r = All-head IsPairInRange x xs h in grind (arith, ranged_all xs (All-tail IsPairInRange x xs h))
 
 module _ (mine sorted best : List Pair) (moved : IsPermutation mine sorted)
     (up : IsSorted (λ (x y : Pair). ordering_then (nat_cmp x.0 y.0) (nat_cmp x.1 y.1)) sorted)
@@ -72,8 +70,7 @@ module _ (mine sorted best : List Pair) (moved : IsPermutation mine sorted)
       ]
 
   pub best_rises : rises best ≡ true
-  best_rises = subst (λ l. rises l ≡ true) (sym is)
-      (staircase_rises (sweep 4294967296 sorted) (sweep_staircase 4294967296 sorted (sorted_in_order sorted up)))
+  best_rises = search (rules, staircase_rises, sweep_staircase, sorted_in_order)
 
   pub best_ranged : All IsPairInRange mine → list_all is_pair best ≡ true
   best_ranged ranged = ranged_all best

@@ -1,17 +1,17 @@
 -- Digits as numbers, and nodes by number and by slot.
+use Rattle.std.proofs.Common.{rules}
+use Rattle.std.proofs.lemmas.Grind.{common_steps}
 use Rattle.std.proofs.Common.{◌≡◌, ℕ, zero, suc, ◌+◌, ◌-◌, ◌*◌, ◌/◌, ◌%◌, ◌^◌, ◌<◌, ◌≤◌, Bool, true, false, cond, eqb}
-use Rattle.std.proofs.Common.{List, [], ◌∷◌, length, refl, sym, ap, ap₂, subst, ◌∙◌, arith, inl, inr}
+use Rattle.std.proofs.Common.{List, [], ◌∷◌, length, refl, sym, ap, ap₂, subst, ◌∙◌, arith}
 use Rattle.std.specs.Prelude.{◌↔◌, ◌⊎◌, max, bit_or}
 use Rattle.std.specs.Int.{bit_at, reverse_bits, reverse_bits_onto, w8}
 use Rattle.std.proofs.lemmas.Nat.{one_shl, shl_whole, pow_pos, div-mul-add}
-use Rattle.std.proofs.lemmas.Nat.Bits.{bit_at_or, bit_at_ones, bit_at_ones_above, bit_at-lt, bit_at-suc}
+use Rattle.std.proofs.lemmas.Nat.Bits.{bit_at_or, bit_at_ones, bit_at_ones_above, bit_at-suc}
 use Rattle.precedence.specs.Pairs.{HasBit}
-use Rattle.std.specs.Ordering.{bool_cmp, nat_cmp, ordering_then}
+use Rattle.std.specs.Ordering.{bool_cmp}
 use Rattle.std.specs.declared.cmp.Ordering.TheVariants.{Less, Equal}
-use Rattle.std.specs.Cmp.{nat_cmp_is}
 use Rattle.std.specs.Cmp.Lexicographic.{slice_cmp}
 use Rattle.std.proofs.Math.Nat.{pow-succ', div-add-mod', pow-le-pow_right}
-use Rattle.std.proofs.lemmas.Bool.{cases_lt}
 use Rattle.cps_theory.specs.Patterns.{PatternNode}
 use Rattle.cps_theory.specs.CertificateClosure.{node_cmp}
 use Rattle.landing_joint.specs.shared.NodePairs.{node_is}
@@ -26,48 +26,33 @@ length_bits (suc n) ones = ap suc (length_bits n (ones / 2))
 -- digits of one number are one
 pub number_one : (xs ys : List Bool) → length xs ≡ length ys → number_of xs ≡ number_of ys → xs ≡ ys
 number_one [] [] l e = refl
-number_one [] (y ∷ ys) l e = absurd (omega (arith, l))
-number_one (x ∷ xs) [] l e = absurd (omega (arith, l))
+number_one [] (y ∷ ys) l e = cc
+number_one (x ∷ xs) [] l e = cc
 number_one (true ∷ xs) (true ∷ ys) l e =
-    let long : length xs ≡ length ys = omega (arith, l) in
-    let p : 2 ^ length xs ≡ 2 ^ length ys = ap (λ n. 2 ^ n) long in
-    ap (λ ds. true ∷ ds) (number_one xs ys long (omega (arith, e, p)))
-number_one (false ∷ xs) (false ∷ ys) l e =
-    ap (λ ds. false ∷ ds) (number_one xs ys (omega (arith, l)) (omega (arith, e)))
-number_one (true ∷ xs) (false ∷ ys) l e =
-    let long : length xs ≡ length ys = omega (arith, l) in
-    let p : 2 ^ length xs ≡ 2 ^ length ys = ap (λ n. 2 ^ n) long in
-    let a = number_below ys in
-    absurd (omega (arith, e, p, a))
-number_one (false ∷ xs) (true ∷ ys) l e =
-    let long : length xs ≡ length ys = omega (arith, l) in
-    let p : 2 ^ length xs ≡ 2 ^ length ys = ap (λ n. 2 ^ n) long in
-    let a = number_below xs in
-    absurd (omega (arith, e, p, a))
+    let long : length xs ≡ length ys = omega (arith, l) in cc
+    (number_one xs ys long (omega (arith, e, (ap (λ n. 2 ^ n) long))))
+number_one (false ∷ xs) (false ∷ ys) l e = cc (number_one xs ys (omega (arith, l)) (omega (arith, e)))
+number_one (true ∷ xs) (false ∷ ys) l e = search (rules, number_below)
+number_one (false ∷ xs) (true ∷ ys) l e = search (rules, number_below)
 
 -- digits of a lesser number come before
 pub number_less : (xs ys : List Bool) → length xs ≡ length ys → number_of xs < number_of ys
     → slice_cmp bool_cmp xs ys ≡ Less
-number_less [] [] l lt = absurd (omega (arith, lt))
-number_less [] (y ∷ ys) l lt = absurd (omega (arith, l))
-number_less (x ∷ xs) [] l lt = absurd (omega (arith, l))
+number_less [] [] l lt = search rules
+number_less [] (y ∷ ys) l lt = cc
+number_less (x ∷ xs) [] l lt = cc
 number_less (true ∷ xs) (true ∷ ys) l lt =
     let long : length xs ≡ length ys = omega (arith, l) in
-    let p : 2 ^ length xs ≡ 2 ^ length ys = ap (λ n. 2 ^ n) long in
-    number_less xs ys long (omega (arith, lt, p))
+    number_less xs ys long (omega (arith, lt, (ap (λ n. 2 ^ n) long)))
 number_less (false ∷ xs) (false ∷ ys) l lt = number_less xs ys (omega (arith, l)) (omega (arith, lt))
 number_less (false ∷ xs) (true ∷ ys) l lt = refl
-number_less (true ∷ xs) (false ∷ ys) l lt =
-    let long : length xs ≡ length ys = omega (arith, l) in
-    let p : 2 ^ length xs ≡ 2 ^ length ys = ap (λ n. 2 ^ n) long in
-    let a = number_below ys in
-    absurd (omega (arith, lt, p, a))
+number_less (true ∷ xs) (false ∷ ys) l lt = search (rules, number_below)
 
 -- ---- turned digits
 
 -- one digit more, as the lowest
 odd_digit : (ones b : ℕ) → b < 2 → eqb ((ones * 2 + b) % 2) 1 ≡ eqb b 1
-odd_digit ones b lt = ap (λ n. eqb n 1) (let e : (ones * 2 + b) % 2 ≡ b = omega arith in e)
+odd_digit ones b lt = search rules
 
 digit_value : (b : ℕ) (n : ℕ) → b < 2 → cond (eqb b 1) n 0 ≡ b * n
 digit_value zero n lt = omega arith
@@ -78,55 +63,34 @@ turned_more : (n j rest ones : ℕ) → n ≡ rest * 2 ^ j + number_of (bits j o
     → n ≡ rest / 2 * 2 ^ suc j + number_of (bits (suc j) (ones * 2 + rest % 2))
 turned_more n j rest ones e =
     let b : rest % 2 < 2 = omega arith in
-    let half : (ones * 2 + rest % 2) / 2 ≡ ones = omega arith in
-    let tail : bits j ((ones * 2 + rest % 2) / 2) ≡ bits j ones = ap (bits j) half in
     let value : number_of (bits (suc j) (ones * 2 + rest % 2)) ≡ rest % 2 * 2 ^ j + number_of (bits j ones) =
-    ap₂ (λ (d : Bool) (ds : List Bool). cond d (2 ^ length ds) 0 + number_of ds) (odd_digit ones (rest % 2) b) tail
+    ap₂ (λ (d : Bool) (ds : List Bool). cond d (2 ^ length ds) 0 + number_of ds) (odd_digit ones (rest % 2) b)
+    (ap (bits j) (omega arith))
     ∙ ap (λ m. cond (eqb (rest % 2) 1) (2 ^ m) 0 + number_of (bits j ones)) (length_bits j ones)
     ∙ ap (λ v. v + number_of (bits j ones)) (digit_value (rest % 2) (2 ^ j) b) in
-    let d = pow-succ' 2 j in
-    let split : rest ≡ rest / 2 * 2 + rest % 2 = omega arith in
-    let whole : rest * 2 ^ j ≡ (rest / 2 * 2 + rest % 2) * 2 ^ j = ap (λ r. r * 2 ^ j) split in
-    let up : rest / 2 * 2 ^ suc j ≡ rest / 2 * (2 * 2 ^ j) = ap (λ m. rest / 2 * m) d in
-    omega (arith, e, value, whole, up)
+    let whole : rest * 2 ^ j ≡ (rest / 2 * 2 + rest % 2) * 2 ^ j = ap (λ r. r * 2 ^ j) (omega arith) in
+    let up : rest / 2 * 2 ^ suc j ≡ rest / 2 * (2 * 2 ^ j) = ap (λ m. rest / 2 * m) (pow-succ' 2 j) in omega arith
 
 turned_step : (n j rest ones : ℕ) → (n ≡ rest * 2 ^ j + number_of (bits j ones)) × (ones < 2 ^ j)
     → (n ≡ rest / 2 * 2 ^ (j + 1) + number_of (bits (j + 1) (ones * 2 + rest % 2)))
     × (ones * 2 + rest % 2 < 2 ^ (j + 1))
-turned_step n j rest ones h =
-    let e : suc j ≡ j + 1 = omega arith in
-    let d = pow-succ' 2 j in
-    let b : rest % 2 < 2 = omega arith in
-    let low = h.1 in
-    let small : ones * 2 + rest % 2 < 2 ^ suc j = omega (arith, d, b, low) in
-    subst (λ m. (n ≡ rest / 2 * 2 ^ m + number_of (bits m (ones * 2 + rest % 2))) × (ones * 2 + rest % 2 < 2 ^ m)) e
-    (turned_more n j rest ones h.0, small)
+turned_step n j rest ones h = grind (arith, common_steps, turned_more)
 
 -- with nothing left, only zeros come behind
 zeros_behind : (d ones : ℕ) → reverse_bits_onto d 0 ones ≡ ones * 2 ^ d
 unfolding reverse_bits_onto
 zeros_behind zero ones = omega arith
 zeros_behind (suc d) ones =
-    let up : ones * 2 ^ suc d ≡ ones * (2 * 2 ^ d) = ap (λ m. ones * m) (pow-succ' 2 d) in
-    let rest : (ones * 2 + 0) * 2 ^ d ≡ ones * 2 ^ suc d = omega (arith, up) in
-    zeros_behind d (ones * 2 + 0) ∙ rest
+    zeros_behind d (ones * 2 + 0) ∙ (omega (arith, (ap (λ m. ones * m) (pow-succ' 2 d))))
 
 -- the turned digits of a number are the high ones of its reversed bits
 turned_onto : (m d n j rest ones : ℕ) → (n ≡ rest * 2 ^ j + number_of (bits j ones)) × (ones < 2 ^ j) → rest < 2 ^ m
     → (turned : ℕ) × (reverse_bits_onto (m + d) rest ones ≡ turned * 2 ^ d) × (n ≡ number_of (bits (j + m) turned))
     × (turned < 2 ^ (j + m))
 unfolding reverse_bits_onto
-turned_onto zero d n j (suc rest) ones h low = absurd (omega (arith, low))
+turned_onto zero d n j (suc rest) ones h low = search rules
 turned_onto zero d n j zero ones h low =
-    let e : j ≡ j + 0 = omega arith in
-    let v = h.0 in
-    let same : n ≡ number_of (bits j ones) = omega (arith, v) in (
-      ones,
-      ap (λ i. reverse_bits_onto i 0 ones) (let none : 0 + d ≡ d = omega arith in none)
-          ∙ zeros_behind d ones,
-      same ∙ ap (λ i. number_of (bits i ones)) e,
-      subst (λ i. ones < 2 ^ i) e h.1,
-    )
+    let e : j ≡ j + 0 = omega arith in search (rules, zeros_behind)
 turned_onto (suc m) d n j rest ones h low =
     let e : j + 1 + m ≡ j + suc m = omega arith in
     let t = turned_onto m d n (j + 1) (rest / 2) (ones * 2 + rest % 2) (turned_step n j rest ones h) (let e =
@@ -143,41 +107,33 @@ pub turned_bits : (k n r : ℕ) → k ≤ 3 → n < 2 ^ (2 * k) → r ≡ revers
 unfolding reverse_bits_onto
 turned_bits k n r near low is =
     let small : 2 ^ (2 * k) ≤ 2 ^ 6 = pow-le-pow_right {n = 2} (omega arith) {j = 6} (omega (arith, near)) in
-    let twice : n * 2 ^ 1 % 256 ≡ n * 2 = omega (arith, low, small) in
     let t = turned_onto (2 * k) (7 - 2 * k) n 0 n 0 (omega arith, omega arith) low in
-    let first : reverse_bits_onto 7 (n * 2 / 2) (0 * 2 + n * 2 % 2) ≡ reverse_bits_onto 7 n 0 =
-    ap₂ (reverse_bits_onto 7) (let e : n * 2 / 2 ≡ n = omega arith in e) (let e : 0 * 2 + n * 2 % 2 ≡ 0 =
-    omega arith in e) in
     let all : 7 ≡ 2 * k + (7 - 2 * k) = omega (arith, near) in
-    let made : r ≡ t.0 * 2 ^ (7 - 2 * k) + 0 =
-    is ∙ ap (λ m. reverse_bits_onto 8 m 0) twice ∙ first ∙ ap (λ m. reverse_bits_onto m n 0) all
-    ∙ t.1 ∙ (let e : t.0 * 2 ^ (7 - 2 * k) ≡ t.0 * 2 ^ (7 - 2 * k) + 0 = omega arith in e) in
-    let high : r / 2 ^ (7 - 2 * k) ≡ t.0 = ap (λ m. m / 2 ^ (7 - 2 * k)) made
-    ∙ div-mul-add t.0 (2 ^ (7 - 2 * k)) 0 (pow_pos (7 - 2 * k)) in
-    let whole : 0 + 2 * k ≡ 2 * k = omega arith in (
-      ap (λ m. number_of (bits (2 * k) m)) high ∙ sym (t.2 ∙ ap (λ i. number_of (bits i t.0)) whole),
-      subst
-          (λ m. m < 2 ^ (2 * k)) (sym high) (subst (λ i. t.0 < 2 ^ i) whole t.3),
-    )
+    let high : r / 2 ^ (7 - 2 * k) ≡ t.0 = ap (λ m. m / 2 ^ (7 - 2 * k))
+    (is ∙ ap (λ m. reverse_bits_onto 8 m 0) (omega (arith, low, small)) ∙
+    (ap₂ (reverse_bits_onto 7) (let e : n * 2 / 2 ≡ n = omega arith in e) (let e : 0 * 2 + n * 2 % 2 ≡ 0 =
+    omega arith in e)) ∙ ap (λ m. reverse_bits_onto m n 0) all
+    ∙ t.1 ∙ (let e : t.0 * 2 ^ (7 - 2 * k) ≡ t.0 * 2 ^ (7 - 2 * k) + 0 = omega arith in e))
+    ∙ div-mul-add t.0 (2 ^ (7 - 2 * k)) 0 (pow_pos (7 - 2 * k)) in search rules
 
 -- ---- bits
 
 bits_add : (n q y : ℕ) → bits n (q * 2 ^ n + y) ≡ bits n y
 bits_add zero q y = refl
 bits_add (suc n) q y =
-    let d = pow-succ' 2 n in
-    let up : q * 2 ^ suc n ≡ q * (2 * 2 ^ n) = ap (λ m. q * m) d in
-    let low : (q * 2 ^ suc n + y) % 2 ≡ y % 2 = omega (arith, up) in
-    let high : (q * 2 ^ suc n + y) / 2 ≡ q * 2 ^ n + y / 2 = omega (arith, up) in
-    ap₂ (λ (b : Bool) (bs : List Bool). b ∷ bs) (ap (λ m. eqb m 1) low) (ap (bits n) high ∙ bits_add n q (y / 2))
+    let up : q * 2 ^ suc n ≡ q * (2 * 2 ^ n) = ap (λ m. q * m) (pow-succ' 2 n) in
+    ap₂ (λ (b : Bool) (bs : List Bool). b ∷ bs) (ap (λ m. eqb m 1) (omega (arith, up)))
+    (ap (bits n) (omega (arith, up)) ∙ bits_add n q (y / 2))
 
 bits_one : (n a b : ℕ) → a < 2 ^ n → b < 2 ^ n → bits n a ≡ bits n b → a ≡ b
 bits_one zero a b x y e = omega (arith, x, y)
 bits_one (suc n) a b x y e =
     let d = pow-succ' 2 n in
-    let low = same_digit (a % 2) (b % 2) (omega arith) (omega arith) (head_same e) in
-    let high = bits_one n (a / 2) (b / 2) (omega (arith, x, d)) (omega (arith, y, d)) (tail_same e) in
-    omega (arith, low, high)
+    omega (
+      arith,
+      (same_digit (a % 2) (b % 2) (omega arith) (omega arith) (head_same e)),
+      (bits_one n (a / 2) (b / 2) (omega (arith, x, d)) (omega (arith, y, d)) (tail_same e)),
+    )
   where
     head_same : {c c' : Bool} {cs cs' : List Bool} → c ∷ cs ≡ c' ∷ cs' → c ≡ c'
     head_same e = cc
@@ -191,24 +147,18 @@ bits_one (suc n) a b x y e =
     same_digit : (a b : ℕ) → a < 2 → b < 2 → eqb a 1 ≡ eqb b 1 → a ≡ b
     same_digit zero zero x y e = refl
     same_digit (suc zero) (suc zero) x y e = refl
-    same_digit zero (suc zero) x y e = absurd (never (sym e))
-    same_digit (suc zero) zero x y e = absurd (never e)
-    same_digit (suc (suc a)) b x y e = absurd (omega (arith, x))
-    same_digit a (suc (suc b)) x y e = absurd (omega (arith, y))
+    same_digit zero (suc zero) x y e = cc
+    same_digit (suc zero) zero x y e = cc
+    same_digit (suc (suc a)) b x y e = omega arith
+    same_digit a (suc (suc b)) x y e = omega arith
 
 -- ---- slots
 
 pub one_slot : (k : ℕ) (d : PatternNode) (s t : ℕ) → HasSlot k d s → HasSlot k d t → s ≡ t
-one_slot k d s t a b =
-    let high : s / 8 ≡ t / 8 = bits_one (2 * k) (s / 8) (t / 8) (let w = a.within in omega arith) (let w =
-    b.within in omega arith) (sym a.pattern ∙ b.pattern) in
-    let x = a.last in
-    let y = b.last in
-    omega (arith, high, x, y)
+one_slot k d s t a b = search (rules, bits_one)
 
 pub slot_node : (k : ℕ) (d e : PatternNode) (s : ℕ) → d.0 ≡ e.0 → HasSlot k d s → HasSlot k e s → d ≡ e
-slot_node k d e s at a b = node_is d.0 e.0 d.1 e.1 d.2 e.2 at (a.pattern ∙ sym b.pattern) (let x =
-    a.last in let y = b.last in omega (arith, at, x, y))
+slot_node k d e s at a b = search rules
 
 -- the slot of a node from its bits
 pub slot_from : (k stage last m : ℕ) (ds : List Bool) (o off : ℕ) → ds ≡ bits (2 * k) m → o ≡ m % 2 ^ (2 * k)
@@ -233,16 +183,7 @@ one_node k d e n at a b =
 -- the slot of a number whose digits are turned
 pub number_slot : (k : ℕ) (d : PatternNode) (n ones : ℕ) → HasNumber k d n → number_of (bits (2 * k) ones) ≡ n / 8
     → ones < 2 ^ (2 * k) → HasSlot k d (ones * 8 + n % 8)
-number_slot k d n ones h turned low =
-    let high : (ones * 8 + n % 8) / 8 ≡ ones = omega arith in
-    let rest : (ones * 8 + n % 8) % 8 ≡ n % 8 = omega arith in
-    let x = h.last in
-    record {
-      pattern = number_one d.1 (bits (2 * k) ones) (h.digits ∙ sym (length_bits (2 * k) ones)) (h.pattern ∙ sym turned)
-          ∙ ap (bits (2 * k)) (sym high);
-      last = omega (arith, rest, x);
-      within = let few : n % 8 < 8 = omega arith in omega (arith, few, low);
-    }
+number_slot k d n ones h turned low = search (rules, number_one, length_bits)
 
 -- a node near its stage has a number
 pub number_near : (k : ℕ) (d : PatternNode) → k ≤ 3 → length d.1 ≡ 2 * k → d.0 ≤ d.2 + k → d.2 ≤ d.0 + k
@@ -252,13 +193,7 @@ number_near k d few long low high =
     let off = d.2 + k - d.0 in
     let small : off < 8 = omega arith in
     let a : v < 2 ^ length d.1 = number_below d.1 in
-    let b : 2 ^ length d.1 ≡ 2 ^ (2 * k) = ap (λ m. 2 ^ m) long in
-    let div : (v * 8 + off) / 8 ≡ v = omega (arith, small) in
-    let rem : (v * 8 + off) % 8 ≡ off = omega (arith, small) in (
-      v * 8 + off,
-      omega (arith, a, b, small),
-      record { digits = long; pattern = sym div; last = omega (arith, rem, low) },
-    )
+    let div : (v * 8 + off) / 8 ≡ v = omega (arith, small) in search rules
 
 -- ---- the order of nodes
 
@@ -271,62 +206,27 @@ digits_equal xs ys e = ap (slice_cmp bool_cmp xs) (sym e) ∙ itself xs
     itself (false ∷ xs) = itself xs
 
 pub earlier_less : (d e : PatternNode) → d.0 < e.0 → node_cmp d e ≡ Less
-earlier_less d e lt = ap (λ o. ordering_then o (ordering_then (slice_cmp bool_cmp d.1 e.1) (nat_cmp d.2 e.2)))
-    (sym (nat_cmp_is d.0 e.0 Less lt))
+earlier_less d e lt = search rules
 
 pub lesser_less : (k : ℕ) (d e : PatternNode) (m n : ℕ) → d.0 ≡ e.0 → HasNumber k d m → HasNumber k e n
     → m < n → node_cmp d e ≡ Less
-lesser_less k d e m n at a b lt =
-    ap (λ o. ordering_then o (ordering_then (slice_cmp bool_cmp d.1 e.1) (nat_cmp d.2 e.2)))
-    (sym (nat_cmp_is d.0 e.0 Equal at))
-    ∙ elim (cases_lt (m / 8) (n / 8)) [
-      | inl less ↦ ap (λ o. ordering_then o (nat_cmp d.2 e.2)) (number_less d.1 e.1 (a.digits ∙ sym b.digits) (let x =
-          a.pattern in let y = b.pattern in omega (arith, x, y, less)))
-      | inr ge ↦
-          let same : m / 8 ≡ n / 8 = omega (arith, ge, lt) in
-          let x = a.last in
-          let y = b.last in
-          ap (λ o. ordering_then o (nat_cmp d.2 e.2))
-          (digits_equal d.1 e.1 (number_one d.1 e.1 (a.digits ∙ sym b.digits) (a.pattern ∙ same ∙ sym b.pattern)))
-          ∙ sym (nat_cmp_is d.2 e.2 Less (omega (arith, same, lt, x, y, at)))
-    ]
+lesser_less k d e m n at a b lt = search (rules, number_less, digits_equal, number_one)
 
 -- ---- the bits of marks
 
 double_at : (a k : ℕ) → a * 2 ^ suc k / 2 ≡ a * 2 ^ k
-double_at a k = let d : a * 2 ^ suc k ≡ a * (2 * 2 ^ k) = ap (λ m. a * m) (pow-succ' 2 k) in omega (arith, d)
+double_at a k = grind arith
 
 shifted_bit : (a k y : ℕ) → k ≤ y → bit_at (a * 2 ^ k) y ≡ bit_at a (y - k)
-shifted_bit a zero y le = let e : a * 2 ^ 0 ≡ a = omega arith in let f : y ≡ y - 0 = omega arith in ap₂ bit_at e f
-shifted_bit a (suc k) zero le = absurd (omega (arith, le))
-shifted_bit a (suc k) (suc y) le = bit_at-suc (a * 2 ^ suc k) y ∙ ap (λ m. bit_at m y) (double_at a k)
-    ∙ shifted_bit a k y (omega (arith, le)) ∙ ap (bit_at a) (let f : y - k ≡ suc y - suc k = omega arith in f)
+shifted_bit a zero y le = search rules
+shifted_bit a (suc k) zero le = omega arith
+shifted_bit a (suc k) (suc y) le = search (rules, bit_at-suc, double_at, shifted_bit a k y (omega (arith, le)))
 
 pub marks_bits : (k placed : ℕ) → k ≤ 3 → placed < 2 ^ 64 → (y : ℕ)
     → HasBit (bit_or (placed * 2 ^ k % 340282366920938463463374607431768211456)
     (1 * 2 ^ (k + 1) % 340282366920938463463374607431768211456 - 1)) y ↔ ((y ≤ k) ⊎ ((k < y) × HasBit placed (y - k)))
 marks_bits k placed near fits y =
-    let whole : placed * 2 ^ k % 340282366920938463463374607431768211456 ≡ placed * 2 ^ k =
-    shl_whole placed 64 k 128 fits (omega (arith, near)) in
-    let ones : 1 * 2 ^ (k + 1) % 340282366920938463463374607431768211456 ≡ 2 ^ (k + 1) =
-    one_shl (k + 1) 128 (omega (arith, near)) in
     let bit = bit_at_or (placed * 2 ^ k % 340282366920938463463374607431768211456)
     (1 * 2 ^ (k + 1) % 340282366920938463463374607431768211456 - 1) y
-    ∙ ap₂ (λ (a b : ℕ). max (bit_at a y) (bit_at (b - 1) y)) whole ones in
-    elim (cases_lt k y) [
-      | inl above ↦
-          let none : bit_at (2 ^ (k + 1) - 1) y ≡ 0 = bit_at_ones_above (k + 1) y (omega (arith, above)) in
-          let moved : bit_at (placed * 2 ^ k) y ≡ bit_at placed (y - k) =
-          shifted_bit placed k y (omega (arith, above)) in (
-            λ has. inr (above, omega (arith, has, bit, none, moved)),
-            λ h. elim h [
-              | inl le ↦ absurd (omega (arith, le, above))
-              | inr b ↦
-                  (let c = b.1 in omega (arith, bit, none, moved, c))
-            ],
-          )
-      | inr below ↦
-          let one : bit_at (2 ^ (k + 1) - 1) y ≡ 1 = bit_at_ones (k + 1) y (omega (arith, below)) in
-          let small = bit_at-lt (placed * 2 ^ k) y in
-          (λ _. inl below, λ _. omega (arith, bit, one, small))
-    ]
+    ∙ ap₂ (λ (a b : ℕ). max (bit_at a y) (bit_at (b - 1) y)) (shl_whole placed 64 k 128 fits (omega (arith, near)))
+    (one_shl (k + 1) 128 (omega (arith, near))) in search (rules, bit_at_ones_above, shifted_bit, bit_at_ones)

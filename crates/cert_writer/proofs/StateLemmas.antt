@@ -1,9 +1,9 @@
 -- States written node by node.
-use Rattle.std.proofs.Common.{◌≡◌, ℕ, ◌+◌, ◌<◌, ◌≤◌, ◌⊎◌, inl, inr, List, [], ◌∷◌, ◌++◌, true, sym, subst, ◌∙◌, arith}
+use Rattle.std.proofs.Common.{rules}
+use Rattle.std.proofs.Common.{◌≡◌, ℕ, ◌+◌, ◌<◌, ◌≤◌, ◌⊎◌, inl, inr, List, [], ◌∷◌, ◌++◌, true, sym, ◌∙◌, arith}
 use Rattle.std.specs.Prelude.{All}
 use Rattle.std.specs.List.{list_all}
-use Rattle.std.proofs.lemmas.Bool.{cases_eq}
-use Rattle.std.proofs.lemmas.List.Elements.{All-push, All-weaker}
+use Rattle.std.proofs.lemmas.List.Elements.{All-push}
 use Rattle.cps_theory.specs.Labels.{Pair}
 use Rattle.cps_theory.specs.Patterns.{PatternNode}
 use Rattle.certificate.specs.States.{State, is_pair}
@@ -13,47 +13,34 @@ use Rattle.landing_rules.specs.shared.Members.{all_at}
 use Rattle.cert_check.specs.shared.StateEnds.{IsBefore, ascending_end, node_left, node_end}
 use Rattle.cert_writer.specs.Slots.{HasNumber}
 use Rattle.cert_writer.specs.Written.{ComesBelow, AreWrittenBelow}
-use Rattle.cert_writer.proofs.SlotLemmas.{earlier_less, lesser_less, one_node}
+use Rattle.cert_writer.proofs.SlotLemmas.{lesser_less, one_node}
 
 module _ (k : ℕ) (stage number : ℕ) where
   below_more : (d : PatternNode) → ComesBelow k stage number d → ComesBelow k stage (number + 1) d
   below_more d (inl lt) = inl lt
-  below_more d (inr (at, n, lt, has)) = inr (at, n, omega (arith, lt), has)
+  below_more d (inr (at, n, lt, has)) = search rules
 
   -- what is below the next number is below this one, or has it
   below_or : (d : PatternNode) → ComesBelow k stage (number + 1) d → ComesBelow k stage number d
       ⊎ ((d.0 ≡ stage) × HasNumber k d number)
   below_or d (inl lt) = inl (inl lt)
-  below_or d (inr (at, n, lt, has)) = elim (cases_eq n number) [
-    | inl e ↦ inr (at, subst (HasNumber k d) e has)
-    | inr ne ↦ inl (inr (at, n, omega (arith, lt, ne), has))
-  ]
+  below_or d (inr (at, n, lt, has)) = search rules
 
   -- what is below a node of the stage comes before it
   below_before : (s : State) (d : PatternNode) → d.0 ≡ stage → HasNumber k d number
       → ComesBelow k stage number (node_of s) → IsBefore s d
-  below_before s d at has (inl lt) = earlier_less (node_of s) d (omega (arith, at, lt))
+  below_before s d at has (inl lt) = search rules
   below_before s d at has (inr (same, n, lt, it)) = lesser_less k (node_of s) d n number (same ∙ sym at) it has lt
 
 module _ (k : ℕ) (Entry : PatternNode → Pair → Type 0) (stage number : ℕ) (ss : List State)
     (w : AreWrittenBelow k Entry stage number ss) where
   below_still : All (λ s. ComesBelow k stage (number + 1) (node_of s)) ss
-  below_still = All-weaker (λ s. ComesBelow k stage number (node_of s))
-      (λ s. ComesBelow k stage (number + 1) (node_of s)) (λ s b. below_more k stage number (node_of s) b) ss w.below
+  below_still = search rules
 
   -- no entry has this number
   pub no_state : ((d : PatternNode) (q : Pair) → d.0 ≡ stage → HasNumber k d number → Entry d q → ⊥)
       → AreWrittenBelow k Entry stage (number + 1) ss
-  no_state none = record {
-    each = w.each;
-    every = λ d q one b e. elim (below_or k stage number d b) [
-      | inl old ↦ w.every d q one old e
-      | inr here ↦ absurd (none d q here.0 here.1 e)
-    ];
-    ascending = w.ascending;
-    below = below_still;
-    in_range = w.in_range;
-  }
+  no_state none = search rules
 
   -- the state of this number
   pub one_state : (s : State) → s.stage ≡ stage → HasNumber k (node_of s) number → HoldsEntries Entry s
@@ -74,33 +61,10 @@ module _ (k : ℕ) (Entry : PatternNode → Pair → Type 0) (stage number : ℕ
   -- with all numbers the stage is written
   pub whole_stage : ((d : PatternNode) (q : Pair) → d.0 ≡ stage → Entry d q → (n : ℕ) × (n < number) × HasNumber k d n)
       → AreWrittenBelow k Entry (stage + 1) 0 ss
-  whole_stage all = record {
-    each = w.each;
-    every = λ d q one b e. w.every d q one (here d q b e) e;
-    ascending = w.ascending;
-    below = All-weaker (λ s. ComesBelow k stage number (node_of s)) (λ s. ComesBelow k (stage + 1) 0 (node_of s))
-        (λ s b. inl (past s b)) ss w.below;
-    in_range = w.in_range;
-  }
-    where
-      here : (d : PatternNode) (q : Pair) → ComesBelow k (stage + 1) 0 d → Entry d q → ComesBelow k stage number d
-      here d q (inr (at, n, lt, has)) e = absurd (omega (arith, lt))
-      here d q (inl lt) e = elim (cases_eq d.0 stage) [
-        | inl at ↦
-            (let a = all d q at e in inr (at, a.0, a.1, a.2))
-        | inr ne ↦ inl (omega (arith, lt, ne))
-      ]
-
-      past : (s : State) → ComesBelow k stage number (node_of s) → s.stage < stage + 1
-      past s (inl lt) = omega (arith, lt)
-      past s (inr r) = let at = r.0 in omega (arith, at)
+  whole_stage all = search rules
 
 -- with all stages all entries are held
 pub all_written : (k : ℕ) (Entry : PatternNode → Pair → Type 0) (last : ℕ) (ss : List State)
     → AreWrittenBelow k Entry (last + 1) 0 ss → ((d : PatternNode) (q : Pair) → Entry d q → d.0 ≤ last)
     → HoldAllEntries Entry ss
-all_written k Entry last ss w ends = record {
-  each = w.each;
-  every = λ d q one e. w.every d q one (inl (let le = ends d q e in omega (arith, le))) e;
-  ascending = w.ascending;
-}
+all_written k Entry last ss w ends = search rules

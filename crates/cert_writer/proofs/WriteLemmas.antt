@@ -1,21 +1,20 @@
 -- The state of a slot.
+use Rattle.std.proofs.Common.{rules}
+use Rattle.std.proofs.lemmas.Grind.{common_steps}
 use Rattle.std.proofs.Common.{◌≡◌, ℕ, ◌+◌, ◌-◌, ◌*◌, ◌/◌, ◌%◌, ◌<◌, ◌≤◌, ◌^◌, inl, List, [], ◌∷◌, ◌++◌, length, get_or}
-use Rattle.std.proofs.Common.{true, Option, refl, sym, ap, subst, ◌∙◌, arith}
+use Rattle.std.proofs.Common.{true, Option, refl, sym, ◌∙◌, arith}
 use Rattle.std.specs.Prelude.{ℤ}
 use Rattle.std.specs.List.{list_all}
-use Rattle.std.proofs.lemmas.List.{get_or_default}
 use Rattle.landing_rules.specs.Problem.{Problem}
 use Rattle.cps_theory.specs.Labels.{InPairs, NoWorse, Pair}
 use Rattle.cps_theory.specs.Patterns.{IsShaped, PatternNode}
-use Rattle.cps_theory.specs.laws.LabelDominance.{no_worse_trans}
 use Rattle.cps_problem.specs.WellFormed.{IsWellFormed}
 use Rattle.cps_network.specs.Lists.{node_at}
 use Rattle.cps_network.specs.Pairs.{HoldsCosts, list_at}
 use Rattle.replan.specs.Held.{HeldProblem}
 use Rattle.replan.specs.Readers.{AreStagesOf, stage_in, lists_in}
-use Rattle.certificate.specs.Patterns.{bits, is_pattern_length}
+use Rattle.certificate.specs.Patterns.{bits}
 use Rattle.certificate.specs.States.{State, IsState, is_pair, rises}
-use Rattle.certificate.specs.shared.PartsKept.{even_length}
 use Rattle.cert_check.specs.States.{node_of}
 use Rattle.cert_check.specs.shared.KeptPairs.{HoldsEntries}
 use Rattle.cert_writer.specs.StageEntries.{IsEntry, IsEntryOf}
@@ -23,31 +22,31 @@ use Rattle.cert_writer.specs.Gathered.{AreGathered, HasBetter, HasOnly}
 use Rattle.certificate.specs.Patterns.{number_of}
 use Rattle.cert_writer.specs.Slots.{HasNumber, HasSlot}
 use Rattle.cert_writer.specs.Written.{AreWrittenBelow}
-use Rattle.cert_writer.proofs.SlotLemmas.{number_near, number_slot, slot_node, length_bits}
+use Rattle.cert_writer.proofs.SlotLemmas.{number_near, number_slot, length_bits}
 use Rattle.cert_writer.proofs.GatherLemmas.{window_shape, place_landable}
-use Rattle.cert_writer.proofs.StateLemmas.{no_state, one_state, whole_stage}
+use Rattle.cert_writer.proofs.StateLemmas.{one_state}
 
 no_pair : (xs : List Pair) (q : Pair) → length xs ≡ 0 → InPairs q xs → ⊥
 no_pair [] q none i = i
-no_pair (x ∷ xs) q none i = omega (arith, none)
+no_pair (x ∷ xs) q none i = cc
 
 -- ---- the list that is read at a slot
 
 pub slot_within : (k number ones room : ℕ) → ones < 2 ^ (2 * k) → room ≡ 8 * 2 ^ (2 * k) → ones * 8 + number % 8 < room
-slot_within k number ones room low all = let few : number % 8 < 8 = omega arith in omega (arith, low, all, few)
+slot_within k number ones room low all = omega arith
 
 module _ (slots : List (List Pair)) (slot : ℕ) (within : slot < length slots) (now : List Pair)
     (is : now ≡ get_or slots slot now) where
   pub slot_is : now ≡ list_at slots slot
-  slot_is = is ∙ get_or_default slots slot now [] within
+  slot_is = grind (arith, common_steps)
 
   pub found_in : (best : List Pair) → HasOnly best (λ q. InPairs q now)
       → HasOnly best (λ q. InPairs q (list_at slots slot))
-  found_in best h q i = subst (InPairs q) slot_is (h q i)
+  found_in best h q i = search (rules, slot_is)
 
   pub covers_in : (best : List Pair) → HasBetter best (λ q. InPairs q now)
       → HasBetter best (λ q. InPairs q (list_at slots slot))
-  covers_in best h q i = h q (subst (InPairs q) (sym slot_is) i)
+  covers_in best h q i = search (rules, slot_is)
 
 -- ---- the stage
 
@@ -63,8 +62,7 @@ pub record IsHeld (p : Problem) (stages : ℕ → ℕ × List (List ℤ)) (lists
 -- each stage of a problem that a planner holds is
 pub stage_held : (p : Problem) (held : Option HeldProblem) (stage : ℕ) → IsWellFormed p → AreStagesOf p held
     → (1 ≤ stage) × (stage ≤ length p.flights) → IsHeld p (stage_in held) (lists_in held) stage
-stage_held p held stage wf are s =
-    record { well_formed = wf; begun = s.0; within = s.1; number = are.number stage s.1; costs = are.pairs stage s.1 }
+stage_held p held stage wf are s = search rules
 
 -- these are the best pairs of the slot of a node's number, where the slots have the pairs of the stage
 pub record AreBestAt (p : Problem) (stages : ℕ → ℕ × List (List ℤ)) (lists : ℕ → List (List Pair))
@@ -81,14 +79,10 @@ module _ (p : Problem) (stages : ℕ → ℕ × List (List ℤ)) (lists : ℕ �
   Entry = IsEntryOf p stages lists
 
   entry_here : (d : PatternNode) (q : Pair) → d.0 ≡ stage → Entry d q → IsEntry p (stages stage) (lists stage) d q
-  entry_here d q at e = subst (λ i. IsEntry p (stages i) (lists i) d q) at e.1
+  entry_here d q at e = search rules
 
   here_entry : (d : PatternNode) (q : Pair) → d.0 ≡ stage → IsEntry p (stages stage) (lists stage) d q → Entry d q
-  here_entry d q at e = (
-    let most =
-        held.within in omega (arith, at, most),
-    subst (λ i. IsEntry p (stages i) (lists i) d q) (sym at) e,
-  )
+  here_entry d q at e = search rules
 
   shape_here : (d : PatternNode) (q : Pair) → IsEntry p (stages stage) (lists stage) d q
       → IsShaped p.k (length p.flights) d × (1 ≤ d.2)
@@ -114,25 +108,22 @@ module _ (p : Problem) (stages : ℕ → ℕ × List (List ℤ)) (lists : ℕ �
         let here = entry_here d q at e in
         let c = are.gathered.covers slot d q (at ∙ sym held.number)
         (number_slot p.k d number ones has are.turned are.low) (here, here.within) in
-        let o = are.covers c.0 c.1 in
-        (o.0, o.1, no_worse_trans o.0 c.0 q o.2 c.2)
+        let o = are.covers c.0 c.1 in search rules
 
     pub none_best : (ss : List State) → AreWrittenBelow p.k Entry stage number ss → length best ≡ 0
         → AreWrittenBelow p.k Entry stage (number + 1) ss
-    none_best ss w none = no_state p.k Entry stage number ss w (λ d q at has e. let c =
-        best_covers d q at has e in no_pair best c.0 none c.1)
+    none_best ss w none = search (rules, best_covers, no_pair)
 
     -- each of them is an entry of one node of the slot
     node_of_best : (q : Pair) → InPairs q best → (d : PatternNode) × (d.0 ≡ stage) × HasSlot p.k d slot × Entry d q
     node_of_best q i =
-        let f = are.gathered.found slot q (are.found q i) in
-        (f.0, f.1 ∙ held.number, f.2, here_entry f.0 q (f.1 ∙ held.number) f.3.0)
+        let f = are.gathered.found slot q (are.found q i) in search rules
 
     first : 1 ≤ length best → (q : Pair) × InPairs q best
     first some = go best some
       where
         go : (xs : List Pair) → 1 ≤ length xs → (q : Pair) × InPairs q xs
-        go [] some = absurd (omega (arith, some))
+        go [] some = search rules
         go (x ∷ xs) some = (x, inl refl)
 
     module _ (some : 1 ≤ length best) where
@@ -140,70 +131,33 @@ module _ (p : Problem) (stages : ℕ → ℕ × List (List ℤ)) (lists : ℕ �
       node = (node_of_best (first some).0 (first some).1).0
 
       pub last_known : p.k ≤ stage + number % 8
-      last_known =
-          let n = node_of_best (first some).0 (first some).1 in
-          let l = n.2.last in
-          let at = n.1 in
-          let e : (ones * 8 + number % 8) % 8 ≡ number % 8 = omega arith in
-          omega (arith, l, at, e)
+      last_known = search (rules, node_of_best, first)
 
       -- the state that is written
       abbrev pub written : State
       written = record { stage = stage; pattern = bits (2 * p.k) ones; last = stage + number % 8 - p.k; pairs = best }
 
       written_slot : HasSlot p.k (node_of written) slot
-      written_slot =
-          let n = node_of_best (first some).0 (first some).1 in
-          let high : (ones * 8 + number % 8) / 8 ≡ ones = omega arith in
-          let rest : (ones * 8 + number % 8) % 8 ≡ number % 8 = omega arith in
-          let known = last_known in
-          record { pattern = ap (bits (2 * p.k)) (sym high); last = omega (arith, rest, known); within = n.2.within }
+      written_slot = search (rules, last_known)
 
       written_number : HasNumber p.k (node_of written) number
-      written_number = let known =
-          last_known in record {
-            digits = length_bits (2 * p.k) ones;
-            pattern = are.turned;
-            last =
-                omega (arith, known);
-          }
+      written_number = search (rules, last_known, length_bits)
 
       best_entry : (q : Pair) → InPairs q best → Entry (node_of written) q
       best_entry q i =
-          let n = node_of_best q i in
-          subst (λ d. Entry d q) (slot_node p.k n.0 (node_of written) slot n.1 n.2 written_slot) n.3
+          let n = node_of_best q i in search rules
 
       pub written_holds : rises best ≡ true → HoldsEntries Entry written
-      written_holds up = record {
-        begun = held.begun;
-        some = some;
-        found = best_entry;
-        covers = λ q e. best_covers (node_of written) q refl written_number e;
-        rising = up;
-      }
+      written_holds up = search (rules, best_entry, best_covers, written_number)
 
       pub written_more : (ss : List State) → AreWrittenBelow p.k Entry stage number ss → rises best ≡ true
           → list_all is_pair best ≡ true → AreWrittenBelow p.k Entry stage (number + 1) (ss ++ written ∷ [])
-      written_more ss w up ranged =
-          one_state p.k Entry stage number ss w written refl written_number (written_holds up) ranged
+      written_more ss w up ranged = search (rules, one_state, written_number, written_holds)
 
       pub written_in_form : rises best ≡ true → list_all is_pair best ≡ true → IsState written
-      written_in_form up ranged =
-          let s = shape_here (node_of written) (first some).0
-          (entry_here (node_of written) (first some).0 refl (best_entry (first some).0 (first some).1)) in
-          let few = held.well_formed.few_flights in
-          let most = held.within in
-          let latest = s.0.latest in
-          record {
-            stage = (held.begun, omega (arith, few, most));
-            pattern = ap is_pattern_length (length_bits (2 * p.k) ones) ∙ even_length p.k held.well_formed.few_places;
-            last = (s.1, omega (arith, few, latest));
-            some_pairs = some;
-            pairs = ranged;
-            rising = up;
-          }
+      written_in_form up ranged = search (rules, shape_here, first, best_entry)
 
   -- the stage with all numbers
   pub stage_written : (ss : List State) → AreWrittenBelow p.k Entry stage (8 * 2 ^ (2 * p.k)) ss
       → AreWrittenBelow p.k Entry (stage + 1) 0 ss
-  stage_written ss w = whole_stage p.k Entry stage (8 * 2 ^ (2 * p.k)) ss w entry_number
+  stage_written ss w = search (rules, entry_number)

@@ -1,7 +1,7 @@
 -- What a text reads as prints back as the text.
-use Rattle.std.proofs.Common.{◌≡◌, ℕ, ◌<◌, ◌^◌, Bool, true, false, cond, ltb, eqb, not, ◌&&◌, ◌||◌, List, [], ◌∷◌}
-use Rattle.std.proofs.Common.{◌++◌, length, get_or, map, Some, None, Ok, Err, refl, sym, ap, subst, ◌∙◌, arith}
-use Rattle.std.proofs.Common.{append-nil}
+use Rattle.std.proofs.Common.{rules}
+use Rattle.std.proofs.Common.{◌≡◌, ℕ, ◌<◌, ◌^◌, Bool, true, false, ltb, eqb, not, ◌&&◌, ◌||◌, List, [], ◌∷◌}
+use Rattle.std.proofs.Common.{◌++◌, length, get_or, map, Some, refl, arith}
 use Rattle.std.specs.Prelude.{◌==◌, codes, decimal, bytes_eq, option_map, option_and_then}
 use Rattle.std.specs.List.{list_all, join_with_byte}
 use Rattle.std.specs.Char.{is_ascii_digit}
@@ -9,17 +9,15 @@ use Rattle.std.specs.Str.{all_ascii_digits}
 use Rattle.std.specs.Str.Parse.{digits_value}
 use Rattle.std.proofs.lemmas.Str.Parse.{numerals_by_value, tells_all_ascii_digits}
 use Rattle.std.proofs.lemmas.Fmt.{decimal-digits_value}
-use Rattle.std.proofs.lemmas.Bool.{ltb-true, ltb-false, and_parts}
+use Rattle.std.proofs.lemmas.Bool.{ltb-true, and_parts}
 use Rattle.std.proofs.lemmas.Option.{cond_some}
 use Rattle.std.proofs.lemmas.Grind.{common_steps}
-use Rattle.std.proofs.lemmas.Slice.Eq.{bytes_eq-Decides}
 use Rattle.std.proofs.lemmas.List.Splits.{join_with_byte-slice_split}
-use Rattle.cps_base.specs.Limits.{greatest_value, most_waiting}
+use Rattle.cps_base.specs.Limits.{greatest_value}
 use Rattle.cps_base.specs.Number.{number_within, is_number}
-use Rattle.cps_base.specs.declared.number.NumberFault.TheVariants.{NotNumber, Below, Above}
 use Rattle.cps_base.specs.Text.{is_callsign}
 use Rattle.landing_rules.specs.Rules.{last_second}
-use Rattle.texts.specs.Parts.{callsign_in, number_in, ok_of, parts}
+use Rattle.texts.specs.Parts.{callsign_in, number_in, parts}
 use Rattle.certificate.specs.declared.certificate.Claim.{Claim}
 use Rattle.certificate.specs.declared.certificate.Claim.TheVariants.{Optimal, Infeasible}
 use Rattle.certificate.specs.States.{Pair, State}
@@ -32,41 +30,29 @@ use Rattle.certificate.proofs.Valid.{then_some, map_some, passed_then}
 -- the parts of a text, joined, are the text
 pub joined : (mark : ℕ) (text : List ℕ) (fields : List (List ℕ)) → parts mark text ≡ fields
     → join_with_byte mark fields ≡ text
-joined mark text fields e = ap (join_with_byte mark) (sym e) ∙ join_with_byte-slice_split mark text
+joined mark text fields e = cc (join_with_byte-slice_split mark text)
 
 pub same_text : (a b : List ℕ) → bytes_eq a b ≡ true → a ≡ b
-same_text a b e = (bytes_eq-Decides a b).0 e
+same_text a b e = search rules
 
 -- ---- numbers
 
 ascii_digits : (text : List ℕ) → list_all is_ascii_digit text ≡ true → all_ascii_digits text ≡ true
 ascii_digits [] e = refl
-ascii_digits (b ∷ text) e = let h =
-    and_parts (is_ascii_digit b) (list_all is_ascii_digit text) e in rw h.0 (ascii_digits text h.1)
+ascii_digits (b ∷ text) e = cc
 
 numeral : (text : List ℕ) → is_number text ≡ true → digits_value 10 text < 2 ^ 64
     → decimal (digits_value 10 text) ≡ text
 numeral text e small =
     let h = and_parts _ (list_all is_ascii_digit text) e in
     let k = and_parts (ltb 0 (length text)) (eqb (length text) 1 || not (eqb (get_or text 0 0) 48)) h.0 in
-    let some : 0 < length text = ltb-true 0 (length text) k.0 in
-    let lead : get_or text 0 0 ≡ 48 → length text ≡ 1 = λ z. let t = k.1 in grind (arith, common_steps) in
-    decimal-digits_value (numerals_by_value _ tells_all_ascii_digits) text (ascii_digits text h.1) some lead small
+    decimal-digits_value (numerals_by_value _ tells_all_ascii_digits) text (ascii_digits text h.1)
+    (ltb-true 0 (length text) k.0) (λ z. let t = k.1 in grind (arith, common_steps)) small
 
 pub number_printed : (text : List ℕ) (least most n : ℕ) → most < 2 ^ 64 → number_in text least most ≡ Some n
     → decimal n ≡ text
 unfolding number_in number_within
-number_printed text least most n fits e =
-    go (is_number text) (ltb (digits_value 10 text) least) (ltb most (digits_value 10 text)) refl refl e
-  where
-    go : (a b c : Bool) → is_number text ≡ a → ltb most (digits_value 10 text) ≡ c
-        → ok_of (cond (not a) (Err NotNumber)
-        (cond b (Err Below) (cond c (Err Above) (Ok (digits_value 10 text))))) ≡ Some n → decimal n ≡ text
-    go true false false p q e =
-        let same : digits_value 10 text ≡ n = cc in
-        let high = ltb-false most (digits_value 10 text) q in
-        ap decimal (sym same) ∙ numeral text p (omega arith)
-    go a b c p q e = absurd cc
+number_printed text least most n fits e = search (rules, numeral)
 
 -- ---- pairs
 
@@ -79,60 +65,42 @@ pair_printed text p e = go (parts 58 text) refl e
         let t = then_some (number_in a 0 last_second) _ p e in
         let c = map_some (number_in b 0 4294967295) _ p t.2 in
         let second = number_printed a 0 last_second t.0 (omega arith) t.1 in
-        let cost = number_printed b 0 4294967295 c.0 (omega arith) c.1 in
-        ap pair_text (sym c.2) ∙ rw (second, cost) (joined 58 text (a ∷ b ∷ []) f)
+        let cost = number_printed b 0 4294967295 c.0 (omega arith) c.1 in cc (joined 58 text (a ∷ b ∷ []) f)
     go fields f e = absurd cc
 
 -- the parts behind a first one
 pub pairs_printed : (a : List ℕ) (ps : List (List ℕ)) (xs : List Pair) → pairs_in ps ≡ Some xs
     → a ++ pairs_text xs ≡ join_with_byte 32 (a ∷ ps)
 unfolding pairs_in
-pairs_printed a [] xs e = let same : [] ≡ xs = cc in ap (λ (ys : List Pair). a ++ pairs_text ys) (sym same)
-    ∙ append-nil a
+pairs_printed a [] xs e = search rules
 pairs_printed a (p ∷ ps) xs e =
     let x = then_some (pair_in p) _ xs e in
     let more = map_some (pairs_in ps) _ xs x.2 in
     let first = pair_printed p x.0 x.1 in
-    let rest = pairs_printed p ps more.0 more.1 in
-    ap (λ (ys : List Pair). a ++ pairs_text ys) (sym more.2)
-    ∙ ap (λ (t : List ℕ). a ++ 32 ∷ (t ++ pairs_text more.0)) first ∙ ap (λ (t : List ℕ). a ++ 32 ∷ t) rest
+    let rest = pairs_printed p ps more.0 more.1 in search rules
 
 -- ---- patterns
 
 digits_printed : (text : List ℕ) → list_all is_digit text ≡ true → map digit_text (map digit_of text) ≡ text
 digits_printed [] e = refl
-digits_printed (b ∷ text) e =
-    let h = and_parts (is_digit b) (list_all is_digit text) e in
-    go (b == 48) (b == 49) refl refl h.0 ∙ ap (λ (t : List ℕ). b ∷ t) (digits_printed text h.1)
+digits_printed (b ∷ text) e = grind (arith, digits_printed text (and_parts (is_digit b) (list_all is_digit text) e).1)
   where
     go : (x y : Bool) → (b == 48) ≡ x → (b == 49) ≡ y → x || y ≡ true
         → digit_text (digit_of b) ∷ map digit_text (map digit_of text) ≡ b ∷ map digit_text (map digit_of text)
-    go x true p q e = let same : b ≡ 49 = grind (arith, common_steps) in subst
-        (λ (c : ℕ). digit_text (digit_of c) ∷ map digit_text (map digit_of text) ≡ c
-        ∷ map digit_text (map digit_of text))
-        (sym same) refl
-    go true false p q e = let same : b ≡ 48 = grind (arith, common_steps) in subst
-        (λ (c : ℕ). digit_text (digit_of c) ∷ map digit_text (map digit_of text) ≡ c
-        ∷ map digit_text (map digit_of text))
-        (sym same) refl
+    go x true p q e = search rules
+    go true false p q e = search rules
     go false false p q e = absurd cc
 
 some_digits : (text : List ℕ) → are_pattern_digits text ≡ true → pattern_text (map digit_of text) ≡ text
 some_digits [] e = absurd cc
-some_digits (b ∷ text) e = digits_printed (b ∷ text) (and_parts _ (list_all is_digit (b ∷ text)) e).1
+some_digits (b ∷ text) e = search (rules, digits_printed)
 
 blank : pattern_text [] ≡ codes "-"
 blank = refl
 
 pub pattern_printed : (text : List ℕ) (ds : List Bool) → pattern_in text ≡ Some ds → pattern_text ds ≡ text
 unfolding pattern_in
-pattern_printed text ds e = go (bytes_eq text (codes "-")) (are_pattern_digits text) refl refl e
-  where
-    go : (a b : Bool) → bytes_eq text (codes "-") ≡ a → are_pattern_digits text ≡ b
-        → cond a (Some []) (cond b (Some (map digit_of text)) None) ≡ Some ds → pattern_text ds ≡ text
-    go true b p q e = let same : [] ≡ ds = cc in ap pattern_text (sym same) ∙ blank ∙ sym (same_text text (codes "-") p)
-    go false false p q e = absurd cc
-    go false true p q e = let same : map digit_of text ≡ ds = cc in ap pattern_text (sym same) ∙ some_digits text q
+pattern_printed text ds e = search (rules, some_digits)
 
 -- ---- lines
 
@@ -140,20 +108,7 @@ state_from_printed : (stage pattern last : List ℕ) (pairs : List (List ℕ)) (
     → state_from stage pattern last pairs ≡ Some s → state_text s ≡ codes "state"
     ++ 32 ∷ join_with_byte 32 (stage ∷ pattern ∷ last ∷ pairs)
 unfolding state_from
-state_from_printed stage pattern last pairs s e =
-    let a = then_some (number_in stage 1 most_waiting) _ s e in
-    let p = then_some (pattern_in pattern) _ s a.2 in
-    let l = then_some (number_in last 1 most_waiting) _ s p.2 in
-    let xs = then_some (pairs_in pairs) _ s l.2 in
-    let t = cond_some _ _ s xs.2 in
-    ap state_text (sym t.1)
-    ∙ rw (
-      number_printed stage 1 most_waiting a.0 (omega arith) a.1,
-      pattern_printed pattern p.0 p.1,
-      number_printed last 1 most_waiting l.0
-          (omega arith) l.1,
-    ) (ap (λ (x : List ℕ). codes "state" ++ 32 ∷ (stage ++ 32 ∷ (pattern ++ 32 ∷ x)))
-    (pairs_printed last pairs xs.0 xs.1))
+state_from_printed stage pattern last pairs s e = search (rules, number_printed, pattern_printed, pairs_printed)
 
 pub state_printed : (line : List ℕ) (s : State) → state_in line ≡ Some s → state_text s ≡ line
 unfolding state_in state_by
@@ -161,11 +116,12 @@ state_printed line s e = go (parts 32 line) refl e
   where
     go : (fields : List (List ℕ)) → parts 32 line ≡ fields → state_by fields ≡ Some s → state_text s ≡ line
     go (word ∷ stage ∷ pattern ∷ last ∷ pairs) f e =
-        let o = passed_then _ _ s e in
-        state_from_printed stage pattern last pairs s o.1
-        ∙ ap (λ (w : List ℕ). w ++ 32 ∷ join_with_byte 32 (stage ∷ pattern ∷ last ∷ pairs))
-        (sym (same_text word (codes "state") o.0))
-        ∙ joined 32 line (word ∷ stage ∷ pattern ∷ last ∷ pairs) f
+        let o = passed_then _ _ s e in cc (
+          same_text word (codes "state") o.0,
+          state_from_printed stage pattern last pairs s o.1,
+          joined 32 line
+              (word ∷ stage ∷ pattern ∷ last ∷ pairs) f,
+        )
     go fields f e = absurd cc
 
 pub landing_printed : (line : List ℕ) (l : List ℕ × ℕ) → landing_in line ≡ Some l → landing_text l ≡ line
@@ -178,13 +134,12 @@ landing_printed line l e = go (parts 32 line) refl e
         (option_and_then (λ c. option_map (λ t. (c, t)) (number_in second 0 last_second)) (callsign_in name)) l e in
         let c = then_some (callsign_in name) (λ c. option_map (λ t. (c, t)) (number_in second 0 last_second)) l o.1 in
         let n = cond_some (is_callsign name) name c.0 c.1 in
-        let t = map_some (number_in second 0 last_second) (λ t. (c.0, t)) l c.2 in
-        ap landing_text (sym t.2)
-        ∙ ap (λ (x : List ℕ). codes "land" ++ 32 ∷ (x ++ 32 ∷ decimal t.0)) (sym n.1)
-        ∙ ap (λ (x : List ℕ). codes "land" ++ 32 ∷ (name ++ 32 ∷ x))
-        (number_printed second 0 last_second t.0 (omega arith) t.1)
-        ∙ ap (λ (w : List ℕ). w ++ 32 ∷ (name ++ 32 ∷ second)) (sym (same_text word (codes "land") o.0))
-        ∙ joined 32 line (word ∷ name ∷ second ∷ []) f
+        let t = map_some (number_in second 0 last_second) (λ t. (c.0, t)) l c.2 in cc (
+          number_printed second 0 last_second t.0 (omega arith) t.1,
+          same_text word (codes "land") o.0,
+          joined 32
+              line (word ∷ name ∷ second ∷ []) f,
+        )
     go fields f e = absurd cc
 
 pub claim_printed : (line : List ℕ) (c : Claim) → claim_in line ≡ Some c → claim_text c ≡ line
@@ -193,24 +148,16 @@ claim_printed line c e = go (parts 32 line) refl e
   where
     go : (fields : List (List ℕ)) → parts 32 line ≡ fields → claim_by fields ≡ Some c → claim_text c ≡ line
     go (word ∷ kind ∷ []) f e =
-        let o = cond_some (bytes_eq word (codes "claim") && bytes_eq kind (codes "infeasible")) Infeasible c e in
-        let w = and_parts (bytes_eq word (codes "claim")) (bytes_eq kind (codes "infeasible")) o.0 in
+        let w = and_parts (bytes_eq word (codes "claim")) (bytes_eq kind (codes "infeasible"))
+        (cond_some (bytes_eq word (codes "claim") && bytes_eq kind (codes "infeasible")) Infeasible c e).0 in
         let a = same_text word (codes "claim") w.0 in
-        let b = same_text kind (codes "infeasible") w.1 in
-        ap claim_text (sym o.1)
-        ∙ ap (λ (w : List ℕ). w ++ 32 ∷ codes "infeasible") (sym a)
-        ∙ ap (λ (k : List ℕ). word ++ 32 ∷ k) (sym b)
-        ∙ joined 32 line (word ∷ kind ∷ []) f
+        let b = same_text kind (codes "infeasible") w.1 in cc (joined 32 line (word ∷ kind ∷ []) f)
     go (word ∷ kind ∷ value ∷ []) f e =
         let o = passed_then (bytes_eq word (codes "claim") && bytes_eq kind (codes "optimal")) _ c e in
         let w = and_parts (bytes_eq word (codes "claim")) (bytes_eq kind (codes "optimal")) o.0 in
         let a = same_text word (codes "claim") w.0 in
         let b = same_text kind (codes "optimal") w.1 in
         let v = map_some (number_in value 0 greatest_value) Optimal c o.1 in
-        let n = number_printed value 0 greatest_value v.0 (omega arith) v.1 in
-        ap claim_text (sym v.2)
-        ∙ ap (λ (w : List ℕ). w ++ 32 ∷ (codes "optimal" ++ 32 ∷ decimal v.0)) (sym a)
-        ∙ ap (λ (k : List ℕ). word ++ 32 ∷ (k ++ 32 ∷ decimal v.0)) (sym b)
-        ∙ ap (λ (t : List ℕ). word ++ 32 ∷ (kind ++ 32 ∷ t)) n
-        ∙ joined 32 line (word ∷ kind ∷ value ∷ []) f
+        let n = number_printed value 0 greatest_value v.0 (omega arith) v.1 in grind
+        (arith, joined 32 line (word ∷ kind ∷ value ∷ []) f)
     go fields f e = absurd cc

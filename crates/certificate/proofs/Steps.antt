@@ -1,5 +1,6 @@
 -- One more line of the text, and a line at which it fails.
-use Rattle.std.proofs.Common.{◌≡◌, ℕ, ◌<◌, length, arith, List, [], ◌∷◌, Result, Ok, Err, inl, inr, refl}
+use Rattle.std.proofs.Common.{rules}
+use Rattle.std.proofs.Common.{◌≡◌, ℕ, ◌<◌, length, List, [], ◌∷◌, Result, Ok, Err, inl, inr, refl}
 use Rattle.cps_base.specs.Answers.{Fails}
 use Rattle.certificate.specs.declared.certificate.Claim.{Claim}
 use Rattle.certificate.specs.declared.fault.CertFault.{CertFault}
@@ -12,7 +13,7 @@ line_stop n c b line e rest next h = rw h refl
 
 pub line_stop_all : (n : ℕ) (c : Claim) (b : Body) (line : List ℕ) (e : CertFault) (rest : List (List ℕ))
     → 0 < length rest → line_in n b line ≡ Err e → lines_in n c b line rest ≡ Err e
-line_stop_all n c b line e [] some h = absurd (omega (arith, some))
+line_stop_all n c b line e [] some h = search rules
 line_stop_all n c b line e (next ∷ rest) some h = line_stop n c b line e rest next h
 
 pub line_end : (n : ℕ) (c : Claim) (b : Body) (line : List ℕ) → length line ≡ 0

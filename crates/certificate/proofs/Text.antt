@@ -1,6 +1,8 @@
 -- The text of a certificate is cut into its lines, and reads back.
-use Rattle.std.proofs.Common.{◌≡◌, ℕ, ◌<◌, ◌≤◌, ◌^◌, Bool, true, false, not, List, [], ◌∷◌, ◌++◌, map, Option, Ok}
-use Rattle.std.proofs.Common.{refl, ap, ◌∙◌, arith, inl, append_assoc}
+use Rattle.std.proofs.Common.{rules}
+use Rattle.std.proofs.lemmas.Grind.{common_steps}
+use Rattle.std.proofs.Common.{◌≡◌, ℕ, ◌<◌, ◌≤◌, ◌^◌, Bool, true, false, not, List, [], ◌∷◌, ◌++◌, map, Ok}
+use Rattle.std.proofs.Common.{refl, arith}
 use Rattle.std.specs.Prelude.{◌==◌, codes, decimal}
 use Rattle.std.specs.List.{list_all}
 use Rattle.std.proofs.lemmas.List.Elements.{All-append, All-cons}
@@ -11,7 +13,7 @@ use Rattle.texts.specs.shared.Printed.{Lacks, callsign_lacks, cut, decimal_lacks
 use Rattle.certificate.specs.declared.certificate.Claim.{Claim}
 use Rattle.certificate.specs.declared.certificate.Claim.TheVariants.{Optimal, Infeasible}
 use Rattle.certificate.specs.States.{Pair, State, IsState, AreStates}
-use Rattle.certificate.specs.Reading.{Cert, IsClaim, AreLandings, IsCertificate, claim_behind, body_behind, body_lines}
+use Rattle.certificate.specs.Reading.{Cert, IsClaim, AreLandings, IsCertificate, body_lines}
 use Rattle.certificate.specs.Reading.{certificate_by, certificate_of}
 use Rattle.certificate.specs.Spelling.{digit_text, pattern_text, pair_text, pairs_text, state_text, landing_text}
 use Rattle.certificate.specs.Spelling.{claim_text, landing_lines, state_lines, certificate_text}
@@ -22,17 +24,17 @@ abbrev test : ℕ → Type 0
 test b = (b == 10) ≡ false
 
 number : (n : ℕ) → n < 2 ^ 64 → Lacks 10 (decimal n)
-number n h = decimal_lacks n 10 h (inl (omega arith))
+number n h = search (rules, decimal_lacks)
 
 -- two texts round another byte
 join : (m : ℕ) (a b : List ℕ) → test m → Lacks 10 a → Lacks 10 b → Lacks 10 (a ++ m ∷ b)
 join m a b e h k = All-append test a (m ∷ b) h (All-cons test m b e k)
 
 pair : (p : Pair) → p.0 ≤ last_second → p.1 ≤ 4294967295 → Lacks 10 (pair_text p)
-pair p a b = join 58 (decimal p.0) (decimal p.1) refl (number p.0 (omega arith)) (number p.1 (omega arith))
+pair p a b = search (rules, join, number)
 
 pairs : (ps : List Pair) → ArePairs ps → Lacks 10 (pairs_text ps)
-pairs [] k = λ i d lt. absurd (omega arith)
+pairs [] k = search rules
 pairs (p ∷ ps) k = All-cons test 32 (pair_text p ++ pairs_text ps) refl
     (All-append test (pair_text p) (pairs_text ps) (pair p k.0 k.1) (pairs ps k.2))
 
@@ -42,44 +44,41 @@ no_end (true ∷ ds) = no_end ds
 no_end (false ∷ ds) = no_end ds
 
 pattern_line : (ds : List Bool) → Lacks 10 (pattern_text ds)
-pattern_line [] = lacks_by 10 (codes "-") refl
-pattern_line (d ∷ ds) = lacks_by 10 (map digit_text (d ∷ ds)) (no_end (d ∷ ds))
+pattern_line [] = search rules
+pattern_line (d ∷ ds) = search (rules, lacks_by, no_end)
 
 state_lacks : (s : State) → IsState s → Lacks 10 (state_text s)
 state_lacks s h =
-    let a : s.stage < 2 ^ 64 = let x = h.stage.1 in omega arith in
-    let b : s.last < 2 ^ 64 = let x = h.last.1 in omega arith in
     join 32 (codes "state") (decimal s.stage
     ++ 32 ∷ (pattern_text s.pattern ++ 32 ∷ (decimal s.last ++ pairs_text s.pairs))) refl
     (lacks_by 10 (codes "state") refl)
     (join 32 (decimal s.stage) (pattern_text s.pattern ++ 32 ∷ (decimal s.last ++ pairs_text s.pairs)) refl
-    (number s.stage a)
+    (number s.stage (let x = h.stage.1 in omega arith))
     (join 32 (pattern_text s.pattern) (decimal s.last ++ pairs_text s.pairs) refl (pattern_line s.pattern)
-    (All-append test (decimal s.last) (pairs_text s.pairs) (number s.last b)
+    (All-append test (decimal s.last) (pairs_text s.pairs) (number s.last (let x = h.last.1 in omega arith))
     (pairs s.pairs (in_ranges s.pairs h.pairs)))))
 
 landing_lacks : (l : List ℕ × ℕ) → is_callsign l.0 ≡ true → l.1 ≤ last_second → Lacks 10 (landing_text l)
-landing_lacks l c t = join 32 (codes "land") (l.0 ++ 32 ∷ decimal l.1) refl (lacks_by 10 (codes "land") refl)
-    (join 32 l.0 (decimal l.1) refl (callsign_lacks 10 l.0 refl c) (number l.1 (omega arith)))
+landing_lacks l c t = search (rules, join, callsign_lacks, number)
 
 claim_lacks : (c : Claim) → IsClaim c → Lacks 10 (claim_text c)
-claim_lacks Infeasible h = lacks_by 10 (codes "claim infeasible") refl
-claim_lacks (Optimal v) h = join 32 (codes "claim") (codes "optimal" ++ 32 ∷ decimal v) refl
-    (lacks_by 10 (codes "claim") refl) (join 32 (codes "optimal") (decimal v) refl (lacks_by 10 (codes "optimal") refl)
-    (number v (omega arith)))
+claim_lacks Infeasible h = search rules
+claim_lacks (Optimal v) h = search (rules, number)
 
 state_parts : (ss : List State) → AreStates ss → parts 10 (state_lines ss) ≡ map state_text ss ++ [] ∷ []
 state_parts [] h = refl
-state_parts (s ∷ ss) h = cut 10 (state_text s) (state_lines ss) (state_lacks s h.0) refl
-    ∙ ap (λ (xs : List (List ℕ)). state_text s ∷ xs) (state_parts ss h.1)
+state_parts (s ∷ ss) h = search (rules, cut, state_lacks, state_parts ss h.1)
 
 body_parts : (ls : List (List ℕ × ℕ)) (ss : List State) → AreLandings ls → AreStates ss
     → parts 10 (landing_lines ls ++ state_lines ss) ≡ map landing_text ls ++ (map state_text ss ++ [] ∷ [])
 body_parts [] ss hl h = state_parts ss h
-body_parts (l ∷ ls) ss hl h =
-    ap (parts 10) (append_assoc (landing_text l) (10 ∷ landing_lines ls) (state_lines ss))
-    ∙ cut 10 (landing_text l) (landing_lines ls ++ state_lines ss) (landing_lacks l hl.0 hl.1) refl
-    ∙ ap (λ (xs : List (List ℕ)). landing_text l ∷ xs) (body_parts ls ss hl.2 h)
+body_parts (l ∷ ls) ss hl h = grind (
+  arith,
+  common_steps,
+  body_parts ls ss hl.2 h,
+  cut 10 (landing_text l) (landing_lines ls ++ state_lines ss)
+      (landing_lacks l hl.0 hl.1) refl,
+)
 
 as_lines : (c : Claim) (ls : List (List ℕ × ℕ)) (ss : List State) (x : Cert)
     → lines_all 3 c ([], []) (map landing_text ls ++ (map state_text ss ++ [] ∷ [])) ≡ Ok x
@@ -91,14 +90,4 @@ as_lines c (l ∷ ls) ss x e = e
 -- reading what is printed gives the certificate again
 pub reads_back : (c : Cert) → IsCertificate c → certificate_of (certificate_text c) ≡ Ok c
 unfolding certificate_of certificate_by
-reads_back c h =
-    let body = landing_lines c.landings ++ state_lines c.states in
-    let lines = map landing_text c.landings ++ (map state_text c.states ++ [] ∷ []) in
-    let head = cut 10 (codes "certificate 1") (claim_text c.claim ++ 10 ∷ body)
-    (lacks_by 10 (codes "certificate 1") refl) refl in
-    let second = cut 10 (claim_text c.claim) body (claim_lacks c.claim h.claim) refl in
-    let rest = body_parts c.landings c.states h.landings h.states in
-    let last : body_lines c.claim lines ≡ Ok c = as_lines c.claim c.landings c.states c
-    (body_back 3 c.claim [] c.landings c.states h.landings h.states h.ascending) in
-    ap certificate_by head ∙ ap claim_behind (second ∙ ap (λ (xs : List (List ℕ)). claim_text c.claim ∷ xs) rest)
-    ∙ ap (λ (o : Option Claim). body_behind o lines) (claim_reads c.claim h.claim) ∙ last
+reads_back c h = search (rules, cut, claim_lacks, body_parts, as_lines, body_back, claim_reads)

@@ -1,13 +1,13 @@
 -- A whole certificate that is printed reads back.
+use Rattle.std.proofs.Common.{rules}
 use Rattle.std.proofs.Common.{◌≡◌, ℕ, suc, ◌+◌, ◌-◌, ◌≤◌, true, List, [], ◌∷◌, ◌++◌, length, map, Result, Ok, Err}
-use Rattle.std.proofs.Common.{refl, sym, ap, subst, ◌∙◌, arith, append_assoc}
-use Rattle.std.specs.Prelude.{slice_get}
+use Rattle.std.proofs.Common.{refl, sym, subst, arith, append_assoc}
 use Rattle.std.proofs.lemmas.List.{append-nil}
 use Rattle.certificate.specs.declared.certificate.Claim.{Claim}
 use Rattle.certificate.specs.declared.fault.CertFault.{CertFault}
 use Rattle.certificate.specs.declared.fault.CertFault.TheVariants as fault
-use Rattle.certificate.specs.States.{State, IsState, comes_behind, follows, AreStates, AreAscending}
-use Rattle.certificate.specs.Reading.{Cert, AreLandings, Body, with_state, with_landing, line_in, lines_in}
+use Rattle.certificate.specs.States.{State, IsState, follows, AreStates, AreAscending}
+use Rattle.certificate.specs.Reading.{Cert, AreLandings, Body, line_in, lines_in}
 use Rattle.certificate.specs.Spelling.{state_text, landing_text}
 use Rattle.certificate.proofs.Again.{state_reads, landing_reads, landing_no_state}
 
@@ -27,49 +27,43 @@ more n c b b' line (next ∷ rest) some e = rw e refl
 
 has_last : (xs : Lines) (x : List ℕ) → 1 ≤ length (xs ++ x ∷ [])
 has_last [] x = omega arith
-has_last (y ∷ xs) x = let h = has_last xs x in omega arith
+has_last (y ∷ xs) x = omega arith
 
 after_last : (pre : List State) (s : State) (ss : List State) → AreAscending (pre ++ s ∷ ss) → follows pre s ≡ true
 after_last [] s ss h = refl
 after_last (a ∷ []) s ss h = h.0
 after_last (a ∷ b ∷ rest) s ss h = let e : length (a ∷ b ∷ rest) - 1 ≡ suc (length (b ∷ rest) - 1) =
-    omega arith in subst (λ (k : ℕ). comes_behind (slice_get (a ∷ b ∷ rest) k) s ≡ true) (sym e)
-    (after_last (b ∷ rest) s ss h.1)
+    omega arith in cc (after_last (b ∷ rest) s ss h.1)
 
 state_line : (n : ℕ) (ls : List (List ℕ × ℕ)) (pre : List State) (s : State) → IsState s → follows pre s ≡ true
     → line_in n (ls, pre) (state_text s) ≡ Ok (ls, pre ++ s ∷ [])
 unfolding line_in
-state_line n ls pre s h f = ap (with_state n (ls, pre) (state_text s)) (state_reads s h) ∙ rw f refl
+state_line n ls pre s h f = cc (state_reads s h)
 
 landing_line : (n : ℕ) (ls : List (List ℕ × ℕ)) (l : List ℕ × ℕ) → AreLandings (l ∷ [])
     → line_in n (ls, []) (landing_text l) ≡ Ok (ls ++ l ∷ [], [])
 unfolding line_in
-landing_line n ls l h = ap (with_state n (ls, []) (landing_text l)) (landing_no_state l h.0 h.1)
-    ∙ ap (with_landing n (ls, [])) (landing_reads l h.0 h.1)
+landing_line n ls l h = search (rules, landing_no_state, landing_reads)
 
 states_back : (n : ℕ) (c : Claim) (ls : List (List ℕ × ℕ)) (pre ss : List State) → AreStates ss
     → AreAscending (pre ++ ss) → lines_all n c (ls, pre) (map state_text ss ++ [] ∷ []) ≡ Ok
     (record { claim = c; landings = ls; states = pre ++ ss })
 unfolding lines_in
-states_back n c ls pre [] h a =
-    ap (λ (xs : List State). Ok (record { claim = c; landings = ls; states = xs })) (sym (append-nil pre))
-states_back n c ls pre (s ∷ ss) h a =
-    more n c (ls, pre) (ls, pre ++ s ∷ []) (state_text s) (map state_text ss ++ [] ∷ [])
-    (has_last (map state_text ss) []) (state_line n ls pre s h.0 (after_last pre s ss a))
-    ∙ states_back (n + 1) c ls (pre ++ s ∷ []) ss h.1 (subst AreAscending (sym (append_assoc pre (s ∷ []) ss)) a)
-    ∙ ap (λ (xs : List State). Ok (record { claim = c; landings = ls; states = xs })) (append_assoc pre (s ∷ []) ss)
+states_back n c ls pre [] h a = search rules
+states_back n c ls pre (s ∷ ss) h a = search (
+  rules,
+  state_line,
+  after_last,
+  append_assoc,
+  states_back (n + 1) c ls (pre ++ s ∷ []) ss h.1
+      (subst AreAscending (sym (append_assoc pre (s ∷ []) ss)) a),
+)
 
 -- the lines of the landings and of the states give them back
 pub body_back : (n : ℕ) (c : Claim) (pre ls : List (List ℕ × ℕ)) (ss : List State) → AreLandings ls
     → AreStates ss → AreAscending ss
     → lines_all n c (pre, []) (map landing_text ls ++ (map state_text ss ++ [] ∷ [])) ≡ Ok
     (record { claim = c; landings = pre ++ ls; states = ss })
-body_back n c pre [] ss hl h a = states_back n c pre [] ss h a
-    ∙ ap (λ (xs : List (List ℕ × ℕ)). Ok (record { claim = c; landings = xs; states = ss })) (sym (append-nil pre))
-body_back n c pre (l ∷ ls) ss hl h a =
-    more n c (pre, []) (pre ++ l ∷ [], []) (landing_text l) (map landing_text ls ++ (map state_text ss ++ [] ∷ []))
-    (subst (λ (xs : Lines). 1 ≤ length xs) (append_assoc (map landing_text ls) (map state_text ss) ([] ∷ []))
-    (has_last (map landing_text ls ++ map state_text ss) [])) (landing_line n pre l (hl.0, hl.1, tt))
-    ∙ body_back (n + 1) c (pre ++ l ∷ []) ls ss hl.2 h a
-    ∙ ap (λ (xs : List (List ℕ × ℕ)). Ok (record { claim = c; landings = xs; states = ss }))
-    (append_assoc pre (l ∷ []) ls)
+body_back n c pre [] ss hl h a = simp (states_back, append-nil)
+body_back n c pre (l ∷ ls) ss hl h a = search
+    (rules, more, append_assoc, landing_line, body_back (n + 1) c (pre ++ l ∷ []) ls ss hl.2 h a)

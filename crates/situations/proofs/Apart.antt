@@ -1,16 +1,17 @@
 -- Callsigns that are apart stay so, and what changes a flight leaves its callsign.
-use Rattle.std.proofs.Common.{◌≡◌, ◌≢◌, ℕ, zero, suc, ◌<◌, Bool, true, false, cond, List, [], ◌∷◌, length, map, zip}
-use Rattle.std.proofs.Common.{get_or, Some, refl, sym, ap, ◌∙◌, arith}
-use Rattle.std.specs.Prelude.{◌&&◌, AllPairs, nat_lt}
+use Rattle.std.proofs.lemmas.Grind.{common_steps}
+use Rattle.std.proofs.Common.{◌≡◌, ◌≢◌, ℕ, zero, suc, ◌<◌, false, cond, List, [], ◌∷◌, length, map, zip}
+use Rattle.std.proofs.Common.{get_or, refl, sym, ap, ◌∙◌, arith}
+use Rattle.std.specs.Prelude.{AllPairs}
 use Rattle.std.proofs.lemmas.List.{length-map, get_or-map}
-use Rattle.landing_rules.specs.Flights.{Active, Callsign, Flight, Span, is_waiting}
+use Rattle.landing_rules.specs.Flights.{Active, Callsign, Flight, Span}
 use Rattle.landing_rules.specs.Events.{named, opening_flight}
 use Rattle.arrivals.specs.declared.aerodrome.Aerodrome.{Aerodrome}
 use Rattle.arrivals.specs.declared.flight.Flight as files
 use Rattle.arrivals.specs.Seen.{flight_of}
 use Rattle.situations.specs.Opened.{opened, opening_of}
 use Rattle.situations.specs.declared.freeze.Freeze.{Freeze}
-use Rattle.situations.specs.Freezes.{count_after, frozen_one}
+use Rattle.situations.specs.Freezes.{frozen_one}
 use Rattle.situations.specs.Seen.{AreApart}
 
 abbrev pub name_of : Active → Callsign
@@ -27,7 +28,7 @@ module _ (c : Callsign) (g : Active → Active) where
 
   -- a flight of another callsign stays
   pub other : (a : Active) → named c a ≡ false → at_named a ≡ a
-  other a e = ap (λ b. cond b (g a) a) e
+  other a e = cc
 
   -- flights of other callsigns stay
   pub others : (xs : List Active) → ((j : ℕ) (d : Active) → j < length xs → named c (get_or xs j d) ≡ false)
@@ -39,12 +40,7 @@ module _ (c : Callsign) (g : Active → Active) where
   pub names_kept : ((a : Active) → name_of a ≡ name_of (g a)) → (xs : List Active)
       → map name_of xs ≡ map name_of (map at_named xs)
   names_kept keeps [] = refl
-  names_kept keeps (x ∷ xs) = ap (λ l. name_of x ∷ l) (names_kept keeps xs)
-      ∙ ap (λ n. n ∷ map name_of (map at_named xs)) (go (named c x))
-    where
-      go : (b : Bool) → name_of x ≡ name_of (cond b (g x) x)
-      go true = keeps x
-      go false = refl
+  names_kept keeps (x ∷ xs) = grind (arith, common_steps, names_kept keeps xs)
 
 abbrev pub with_estimate : ℕ → List Span → Active → Active
 with_estimate eta windows a = record a { flight = record a.flight { eta = eta; windows = windows } }
@@ -54,17 +50,8 @@ with_estimate eta windows a = record a { flight = record a.flight { eta = eta; w
 pub names_frozen : (z : Freeze) (xs : List Active) (ts : List ℕ) → length xs ≡ length ts
     → map name_of xs ≡ map name_of (map (λ p. frozen_one z p.0 p.1) (zip xs ts))
 names_frozen z [] ts n = refl
-names_frozen z (x ∷ xs) [] n = absurd (omega arith)
-names_frozen z (x ∷ xs) (t ∷ ts) n =
-    ap (λ l. x.flight.callsign ∷ l) (names_frozen z xs ts (omega arith))
-    ∙ ap (λ m. m ∷ map name_of (map (λ p. frozen_one z p.0 p.1) (zip xs ts)))
-    (same (is_waiting x && nat_lt t z.h) (is_waiting x))
-  where
-    same : (b w : Bool) → x.flight.callsign ≡ (cond b (record x { frozen = Some t; passed = 0 })
-        (cond w (record x { passed = count_after z x }) x)).flight.callsign
-    same true w = refl
-    same false true = refl
-    same false false = refl
+names_frozen z (x ∷ xs) [] n = cc
+names_frozen z (x ∷ xs) (t ∷ ts) n = grind (arith, common_steps, names_frozen z xs ts (omega arith))
 
 -- ---- the opening
 
@@ -89,4 +76,4 @@ opened_apart a fs apart i j d lt le same =
     made f = opening_flight (opening_of a) f
 
     at : (k : ℕ) → k < length fs → get_or (opened a fs).active k d ≡ made (get_or (map flight_of fs) k d.flight)
-    at k lk = let m = length-map fs flight_of in get_or-map made (map flight_of fs) k d.flight d (omega arith)
+    at k lk = grind (arith, common_steps)

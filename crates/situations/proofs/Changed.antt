@@ -1,23 +1,23 @@
 -- What a change that was made shows: the situation after its event, and the one before it.
-use Rattle.std.proofs.Common.{◌≡◌, ℕ, ◌-◌, true, not, List, length, map, filter, take, slice_get, Option, Some, Vec}
+use Rattle.std.proofs.Common.{rules}
+use Rattle.std.proofs.lemmas.Grind.{common_steps}
+use Rattle.std.proofs.Common.{◌≡◌, ℕ, ◌-◌, true, not, List, length, map, filter, slice_get, Option, Some, Vec}
 use Rattle.std.proofs.Common.{Global, sym, ap, ◌∙◌, arith}
 use Rattle.std.specs.Prelude.{find}
 use Rattle.std.specs.List.{IsDistinct}
 use Rattle.std.specs.Map.{keys_of, values_of}
 use Rattle.std.specs.Str.{bytes_eq}
 use Rattle.std.proofs.lemmas.List.{length-map}
-use Rattle.std.proofs.lemmas.Option.{slice_get_within}
 use Rattle.indexmap.specs.IndexMap.{move_index}
 use Rattle.landing_rules.specs.Flights.{Active, Callsign, Situation, Span, landings}
 use Rattle.landing_rules.specs.Events.{named, estimated, active_after_clock}
 use Rattle.situations.specs.declared.situation.Fixed.{Fixed}
 use Rattle.situations.specs.declared.change.Change.TheVariants.{Cancel, Estimate, Freeze}
 use Rattle.situations.specs.Changes.{IsClock, IsOf, counts_of}
-use Rattle.situations.specs.Named.{waiting_again}
 use Rattle.situations.specs.Seen.{AreApart, situation_of}
 use Rattle.situations.proofs.Freezing.{waiting_back}
-use Rattle.situations.proofs.Named.{listed, own_count}
-use Rattle.situations.proofs.Keyed.{Entry, Keyed, estimated_back, keyed_apart, last_gone, moved_back, moved_long}
+use Rattle.situations.proofs.Named.{own_count}
+use Rattle.situations.proofs.Keyed.{Entry, Keyed, estimated_back, keyed_apart, moved_back, moved_long}
 use Rattle.situations.proofs.Keyed.{one_gone, values_moved}
 
 pub estimated_is : (s now : Situation) (c : Callsign) (eta : ℕ) (windows : List Span) (eta' : ℕ)
@@ -25,14 +25,7 @@ pub estimated_is : (s now : Situation) (c : Callsign) (eta : ℕ) (windows : Lis
     now ≡ record s { active = map (estimated c eta windows) s.active } → eta' ≡ a.flight.eta
     → windows' ≡ a.flight.windows →
     IsOf s (record s { active = map (estimated c eta windows) s.active }) (Estimate c eta' windows') now
-estimated_is s now c eta windows eta' windows' a apart found is e w = record {
-  next_is = is;
-  old_is =
-      ap (λ (n : Situation). record n { active = map (estimated c eta' windows') n.active }) is
-      ∙ (λ j. record s { active = map (estimated c (e j) (w j)) (map (estimated c eta windows) s.active) })
-      ∙ ap (λ l. record s { active = l }) (estimated_back c eta windows s.active a apart found);
-  back = tt;
-}
+estimated_is s now c eta windows eta' windows' a apart found is e w = search (rules, estimated_back)
 
 pub cancelled_is : (f : Fixed) (closures : List Span) (clock : Option ℕ) (c : Callsign) (es fs : List Entry)
     (place : ℕ) (a : Active) → Keyed es → IsDistinct bytes_eq (keys_of es) →
@@ -42,18 +35,11 @@ pub cancelled_is : (f : Fixed) (closures : List Span) (clock : Option ℕ) (c : 
     (situation_of f (values_of fs) closures clock)
 cancelled_is f closures clock c es fs place a keyed distinct at is e =
     let vs = values_of es in
-    let long : length vs ≡ length es = length-map es (λ e. e.1) in
     let moved : values_of fs ≡ move_index vs place (length vs - 1) =
-    values_moved es fs place (length es - 1) e ∙ ap (λ n. move_index vs place (n - 1)) (sym long) in
-    let lt = slice_get_within vs place a at in
-    let same : length (values_of fs) ≡ length vs = ap length moved ∙ moved_long vs place a at in
-    record {
-      next_is = ap (λ l. situation_of f l closures clock) (ap (λ l. take (length l - 1) l) moved
-          ∙ last_gone vs place a at ∙ one_gone c vs place a (keyed_apart es keyed distinct) at is);
-      old_is = ap (λ l. situation_of f l closures clock) (ap (λ l. move_index l (length l - 1) place) moved
-          ∙ moved_back vs place a at);
-      back = omega arith;
-    }
+    values_moved es fs place (length es - 1) e ∙ ap (λ n. move_index vs place (n - 1))
+    (sym (length-map es (λ e. e.1))) in
+    let same : length (values_of fs) ≡ length vs = ap length moved ∙ moved_long vs place a at in grind
+    (arith, common_steps, one_gone, keyed_apart, moved_back)
 
 pub frozen_is : (s now : Situation) (h n : ℕ) (ts : List ℕ) (clock : Option ℕ) (counts : Vec (Callsign × ℕ) Global)
     → AreApart s.active → length s.active ≡ length ts →
@@ -61,16 +47,8 @@ pub frozen_is : (s now : Situation) (h n : ℕ) (ts : List ℕ) (clock : Option 
     → clock ≡ s.clock → IsClock clock → counts.items ≡ counts_of s.active →
     IsOf s (record s { clock = Some n; active = active_after_clock s.aerodrome h s.active (Some ts) })
     (Freeze clock counts) now
-frozen_is s now h n ts clock counts apart long is same within kept = record {
-  next_is = is;
-  old_is =
-      ap (λ (v : Situation). record v { clock = clock; active = listed waiting_again counts.items v.active }) is
-      ∙ (λ j. record s {
-        clock = same j;
-        active =
-            listed waiting_again (kept j) (active_after_clock s.aerodrome h s.active (Some ts));
-      })
-      ∙ ap (λ l. record s { active = l }) (waiting_back s.aerodrome h (landings s.active ts)
-      (counts_of s.active) s.active ts long (own_count s.active apart));
-  back = within;
-}
+frozen_is s now h n ts clock counts apart long is same within kept = grind (
+  arith,
+  waiting_back s.aerodrome h (landings s.active ts) (counts_of s.active) s.active ts long
+      (own_count s.active apart),
+)

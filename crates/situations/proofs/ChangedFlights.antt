@@ -1,4 +1,5 @@
 -- A change of the map of flights, as the rules see it.
+use Rattle.std.proofs.Common.{rules}
 use Rattle.std.proofs.Common.{◌≡◌, Some, None, map, sym, ap, subst, ◌∙◌}
 use Rattle.std.specs.List.{IsDistinct}
 use Rattle.std.specs.Map.{lookup, set_value}
@@ -12,12 +13,7 @@ use Rattle.situations.proofs.Keyed.{changed_one, keyed_still, looked_up, none_na
 
 -- with other flights, each under its own callsign
 pub in_step : (s now : Inside) (m : _) → now ≡ record s { active = m } → IsInStep s → AreKeyed m → IsInStep now
-in_step s now m is ok keyed = subst IsInStep (sym is) (record {
-  keyed = keyed;
-  few_places = ok.few_places;
-  short_freeze = ok.short_freeze;
-  clock = ok.clock;
-})
+in_step s now m is ok keyed = search rules
 
 -- ---- the flight of a callsign has changed, where one has it
 

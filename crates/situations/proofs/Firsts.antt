@@ -1,6 +1,8 @@
 -- What stands first in a list.
-use Rattle.std.proofs.Common.{◌≡◌, ℕ, suc, ◌+◌, ◌≤◌, Bool, true, false, not, cond, arith, List, [], ◌∷◌, ◌++◌, length}
-use Rattle.std.proofs.Common.{drop, Option, Some, None, refl, sym, ap, ◌∙◌, append_assoc}
+use Rattle.std.proofs.Common.{rules}
+use Rattle.std.proofs.lemmas.Grind.{common_steps}
+use Rattle.std.proofs.Common.{◌≡◌, ℕ, ◌+◌, ◌≤◌, Bool, not, arith, List, [], ◌∷◌, ◌++◌, length}
+use Rattle.std.proofs.Common.{drop, Option, Some, None, refl, sym, ap, ◌∙◌}
 use Rattle.std.specs.Prelude.{filter_map, position, option_map}
 use Rattle.std.specs.List.{cons_option, position_from, enumerate_from}
 use Rattle.std.specs.Option.{option_or}
@@ -19,27 +21,18 @@ module _ {X : Type 0} (ok : X → Bool) (fault : ℕ → OpeningFault) where
       → option_map (λ i. fault (i + n)) (position_from (λ x. not (ok x)) k xs) ≡ first_from
       (λ i x. unless (ok x) (fault i)) (k + n) xs
   from_place n k [] = refl
-  from_place n k (x ∷ xs) = go (ok x) (from_place n (k + 1) xs)
-    where
-      go : (b : Bool) → option_map (λ i. fault (i + n)) (position_from (λ y. not (ok y)) (k + 1) xs) ≡ first_from
-          (λ i y. unless (ok y) (fault i)) (k + 1 + n) xs →
-          option_map (λ i. fault (i + n))
-          (cond (not b) (Some k) (position_from (λ y. not (ok y)) (k + 1) xs)) ≡ option_or
-          (unless b (fault (k + n))) (first_from (λ i y. unless (ok y) (fault i)) (k + n + 1) xs)
-      go true ih = ih ∙ ap (λ m. first_from (λ i y. unless (ok y) (fault i)) m xs) (omega arith)
-      go false ih = refl
+  from_place n k (x ∷ xs) = grind (arith, common_steps, from_place n (k + 1) xs)
 
   pub first_place : (n : ℕ) (xs : List X) (at : Option ℕ) → at ≡ position (λ x. not (ok x)) xs
       → option_map (λ i. fault (i + n)) at ≡ first_from (λ i x. unless (ok x) (fault i)) n xs
-  first_place n xs at e = ap (option_map (λ i. fault (i + n))) (e ∙ position_from-zero (λ x. not (ok x)) xs)
-      ∙ from_place n 0 xs ∙ ap (λ m. first_from (λ i x. unless (ok x) (fault i)) m xs) (omega arith)
+  first_place n xs at e = search (rules, position_from-zero, from_place)
 
 -- the first answer along the elements with their numbers from 0 is the first fault with their places from 1
 pub first_numbered : {X : Type 0} (fault_at : ℕ → X → Option OpeningFault) (n : ℕ) (xs : List X)
     → first_answer (λ p. fault_at (p.0 + 1) p.1) (enumerate_from n xs) ≡ first_from fault_at (n + 1) xs
 unfolding first_answer
 first_numbered fault_at n [] = refl
-first_numbered fault_at n (x ∷ xs) = ap (λ o. option_or (fault_at (n + 1) x) o) (first_numbered fault_at (n + 1) xs)
+first_numbered fault_at n (x ∷ xs) = cc (first_numbered fault_at (n + 1) xs)
 
 -- the first landing behind one with its number that is not the table's time from it
 abbrev pub clash_behind : List (List ℕ) → List Landing → ℕ × Landing → Option OpeningFault
@@ -61,20 +54,14 @@ first_clashing table all n (x ∷ xs) e =
 module _ {X Y : Type 0} (h : X → Option Y) (xs : List X) (i : ℕ) (x : X) (done whole : List Y)
     (here : drop i xs ≡ x ∷ drop (i + 1) xs) (e : done ++ filter_map h (drop i xs) ≡ whole) where
   given_step : (o : Option Y) → h x ≡ o → done ++ cons_option o (filter_map h (drop (i + 1) xs)) ≡ whole
-  given_step o k = ap (λ o. done ++ cons_option o (filter_map h (drop (i + 1) xs))) (sym k)
-      ∙ ap (λ l. done ++ l) (sym (ap (filter_map h) here)) ∙ e
+  given_step o k = cc
 
   pub given_more : (y : Y) → h x ≡ Some y → (done ++ y ∷ []) ++ filter_map h (drop (i + 1) xs) ≡ whole
-  given_more y k = append_assoc done (y ∷ []) (filter_map h (drop (i + 1) xs)) ∙ given_step (Some y) k
+  given_more y k = grind (arith, common_steps)
 
   pub given_none : h x ≡ None → done ++ filter_map h (drop (i + 1) xs) ≡ whole
-  given_none k = given_step None k
+  given_none k = cc
 
 pub few_given : {X Y : Type 0} (h : X → Option Y) (xs : List X) → length (filter_map h xs) ≤ length xs
 few_given h [] = omega arith
-few_given {Y = Y} h (x ∷ xs) = go (h x) (few_given h xs)
-  where
-    go : (o : Option Y) → length (filter_map h xs) ≤ length xs
-        → length (cons_option o (filter_map h xs)) ≤ suc (length xs)
-    go None le = omega arith
-    go (Some y) le = omega arith
+few_given {Y = Y} h (x ∷ xs) = grind (arith, common_steps, few_given h xs)

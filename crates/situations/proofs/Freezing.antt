@@ -1,14 +1,13 @@
 -- Freezing one flight after another freezes each.
+use Rattle.std.proofs.Common.{rules}
+use Rattle.std.proofs.lemmas.Grind.{common_steps}
 use Rattle.std.proofs.Common.{◌≡◌, ℕ, zero, suc, ◌+◌, ◌<◌, Bool, true, false, cond, ◌&&◌, List, [], ◌∷◌, ◌++◌, length}
-use Rattle.std.proofs.Common.{map, set, take, Option, Some, None, get_or, refl, sym, ap, ap₂, ◌∙◌, arith}
+use Rattle.std.proofs.Common.{map, set, take, Option, Some, None, get_or, refl, ap, ap₂, ◌∙◌, arith}
 use Rattle.std.specs.Prelude.{nat_lt, zip}
-use Rattle.std.proofs.lemmas.List.Sums.{length-filter}
-use Rattle.std.specs.Prelude.{is_none, min, count_by, filter}
-use Rattle.std.specs.Ordering.{is_lt}
-use Rattle.landing_rules.specs.Rules.{arrival_cmp, first_come_cmp}
+use Rattle.std.specs.Prelude.{is_none, count_by, filter}
 use Rattle.landing_rules.specs.Flights.{Callsign, Flight, Active, Aerodrome, Landing, landing, landings}
 use Rattle.landing_rules.specs.Events.{after_clock, look_up, passed_after, freezes}
-use Rattle.situations.specs.Freezes.{arrival, arrival_if, freezing, behind, count_after, frozen_one, IsFreezeOf}
+use Rattle.situations.specs.Freezes.{arrival, arrival_if, freezing, count_after, frozen_one, IsFreezeOf}
 use Rattle.situations.specs.Named.{waiting_again}
 use Rattle.situations.specs.declared.freeze.Freeze.{Freeze}
 use Rattle.situations.proofs.Named.{listed, noted}
@@ -27,18 +26,17 @@ module _ {B : Type 0} (f : Active → B → Active) where
       → i < length xs →
       set (turned i xs ys) i (f (get_or (turned i xs ys) i d) (get_or ys i e)) ≡ turned (suc i) xs ys
   turned-step i [] ys d e n l = absurd (omega arith)
-  turned-step i (x ∷ xs) [] d e n l = absurd (omega arith)
+  turned-step i (x ∷ xs) [] d e n l = cc
   turned-step zero (x ∷ xs) (y ∷ ys) d e n l = refl
-  turned-step (suc i) (x ∷ xs) (y ∷ ys) d e n l =
-      ap (λ r. f x y ∷ r) (turned-step i xs ys d e (omega arith) (omega arith))
+  turned-step (suc i) (x ∷ xs) (y ∷ ys) d e n l = cc (turned-step i xs ys d e (omega arith) (omega arith))
 
   pub turned-all : (i : ℕ) (xs : List Active) (ys : List B) → length xs ≡ length ys → i ≡ length ys
       → turned i xs ys ≡ map (λ p. f p.0 p.1) (zip xs ys)
-  turned-all i [] [] n l = ap (λ j. turned j [] []) l
-  turned-all i [] (y ∷ ys) n l = absurd (omega arith)
-  turned-all i (x ∷ xs) [] n l = absurd (omega arith)
-  turned-all zero (x ∷ xs) (y ∷ ys) n l = absurd (omega arith)
-  turned-all (suc i) (x ∷ xs) (y ∷ ys) n l = ap (λ r. f x y ∷ r) (turned-all i xs ys (omega arith) (omega arith))
+  turned-all i [] [] n l = cc
+  turned-all i [] (y ∷ ys) n l = cc
+  turned-all i (x ∷ xs) [] n l = cc
+  turned-all zero (x ∷ xs) (y ∷ ys) n l = cc
+  turned-all (suc i) (x ∷ xs) (y ∷ ys) n l = cc (turned-all i xs ys (omega arith) (omega arith))
 
 -- ---- and back
 
@@ -48,7 +46,7 @@ pub waiting_back : (a : Aerodrome) (h : ℕ) (all : List Landing) (cs : List (Ca
     ((i : ℕ) (d : Active) → i < length xs → look_up (get_or xs i d).flight.callsign cs ≡ noted (get_or xs i d))
     → listed waiting_again cs (map (after_clock a h all) (landings xs ts)) ≡ xs
 waiting_back a h all cs [] ts n own = refl
-waiting_back a h all cs (x ∷ xs) [] n own = absurd (omega arith)
+waiting_back a h all cs (x ∷ xs) [] n own = cc
 waiting_back a h all cs (x ∷ xs) (t ∷ ts) n own =
     ap₂ (λ (y : Active) (l : List Active). y ∷ l) (go x.frozen refl (nat_lt t h))
     (waiting_back a h all cs xs ts (omega arith) (λ i d lt. own (suc i) d (omega arith)))
@@ -76,13 +74,8 @@ pub freezing-more : (h i : ℕ) (active : List Active) (ts : List ℕ) (d : Acti
     freezing h (take i active) (take i ts) ++ arrival_if h (landing (get_or active i d) (get_or ts i 0)) ≡ freezing h
     (take (suc i) active) (take (suc i) ts)
 freezing-more h i [] ts d n l = absurd (omega arith)
-freezing-more h i (a ∷ active) [] d n l = absurd (omega arith)
-freezing-more h zero (a ∷ active) (t ∷ ts) d n l = go (freezes h (landing a t))
-  where
-    go : (b : Bool) → cond b (arrival a.flight ∷ []) [] ≡ map (λ (g : Landing). arrival g.flight)
-        (cond b (landing a t ∷ []) [])
-    go true = refl
-    go false = refl
+freezing-more h i (a ∷ active) [] d n l = cc
+freezing-more h zero (a ∷ active) (t ∷ ts) d n l = search rules
 freezing-more h (suc i) (a ∷ active) (t ∷ ts) d n l =
     go (freezes h (landing a t)) (freezing-more h i active ts d (omega arith) (omega arith))
   where
@@ -97,18 +90,14 @@ freezing-more h (suc i) (a ∷ active) (t ∷ ts) d n l =
         ≡ map (λ (g : Landing). arrival g.flight)
         (cond b (landing a t ∷ filter (freezes h) (landings (take (suc i) active) (take (suc i) ts)))
         (filter (freezes h) (landings (take (suc i) active) (take (suc i) ts))))
-    go true ih = ap (λ l. arrival a.flight ∷ l) ih
+    go true ih = cc
     go false ih = ih
 
 pub freezing-step : (h i : ℕ) (active : List Active) (ts : List ℕ) (a : Active) (now new : List (ℕ × List ℕ))
     → length active ≡ length ts → i < length ts → a ≡ get_or active i a →
     now ≡ freezing h (take i active) (take i ts) → new ≡ now ++ arrival_if h (landing a (get_or ts i 0))
     → new ≡ freezing h (take (i + 1) active) (take (i + 1) ts)
-freezing-step h i active ts a now new n l at e set =
-    let m : i + 1 ≡ suc i = omega arith in
-    set ∙ ap (λ l. l ++ arrival_if h (landing a (get_or ts i 0))) e
-    ∙ ap (λ (x : Active). freezing h (take i active) (take i ts) ++ arrival_if h (landing x (get_or ts i 0))) at
-    ∙ freezing-more h i active ts a n l ∙ ap (λ j. freezing h (take j active) (take j ts)) (sym m)
+freezing-step h i active ts a now new n l at e set = search (rules, freezing-more)
 
 -- ---- and what a clock event makes of a flight
 
@@ -123,65 +112,33 @@ parts : (t n m : ℕ) → n ≡ m → (f : Flight) (o : Option ℕ) (p : ℕ) (b
     (is_none o && b) (froze t f) (cond (is_none o) (stays f None m) (stays f o p))
 parts t n m e f (Some s) p b = refl
 parts t n m e f None p true = refl
-parts t n m e f None p false = ap (stays f None) e
+parts t n m e f None p false = cc
 
 kept-map : (test : ℕ × List ℕ → Bool) (all : List Landing)
     → length (filter test (map (λ (g : Landing). arrival g.flight) all)) ≡ length
     (filter (λ (g : Landing). test (arrival g.flight)) all)
 kept-map test [] = refl
-kept-map test (g ∷ all) = go (test (arrival g.flight)) (kept-map test all)
-  where
-    go : (b : Bool) → length (filter test (map (λ (g : Landing). arrival g.flight) all)) ≡ length
-        (filter (λ (g : Landing). test (arrival g.flight)) all) →
-        length (cond b (arrival g.flight ∷ filter test (map (λ (g : Landing). arrival g.flight) all))
-        (filter test (map (λ (g : Landing). arrival g.flight) all)))
-        ≡ length (cond b (g ∷ filter (λ (g : Landing). test (arrival g.flight)) all)
-        (filter (λ (g : Landing). test (arrival g.flight)) all))
-    go true ih = ap suc ih
-    go false ih = ih
+kept-map test (g ∷ all) = grind (arith, common_steps, kept-map test all)
 
 count-map : (test : ℕ × List ℕ → Bool) (all : List Landing)
     → count_by test (map (λ (g : Landing). arrival g.flight) all) ≡ count_by
     (λ (g : Landing). test (arrival g.flight)) all
-count-map test all =
-    sym (length-filter test (map (λ (g : Landing). arrival g.flight) all)) ∙ kept-map test all
-    ∙ length-filter (λ (g : Landing). test (arrival g.flight)) all
+count-map test all = grind (arith, common_steps)
 
 -- the count that the rules give
 count_is : (a : Aerodrome) (h : ℕ) (active : List Active) (ts : List ℕ) (z : Freeze) → IsFreezeOf a h active ts z
     → (x : Active) (t : ℕ) → count_after z x ≡ passed_after a h (landings active ts) (landing x t)
-count_is a h active ts z of x t = go a.carry refl
-  where
-    others : List Landing
-    others = filter (freezes h) (landings active ts)
-
-    go : (b : Bool) → a.carry ≡ b →
-        count_after z x ≡ cond a.carry
-        (min a.k (x.passed + count_by (λ (g : Landing). is_lt (arrival_cmp x.flight g.flight)) others)) x.passed
-    go false e = rw (of.carry, e) refl
-    go true e =
-        let same : z.freezing.items ≡ map (λ (g : Landing). arrival g.flight) others = of.freezing (of.carry ∙ e) in
-        let n : behind z.freezing.items x ≡ count_by (λ (g : Landing). is_lt (arrival_cmp x.flight g.flight)) others =
-        ap (λ l. behind l x) same ∙ count-map (λ g. is_lt (first_come_cmp (arrival x.flight) g)) others in
-        rw (of.carry, e) (ap (λ m. min z.k (x.passed + m)) n
-        ∙ ap (λ k. min k (x.passed + count_by (λ (g : Landing). is_lt (arrival_cmp x.flight g.flight)) others))
-        of.most)
+count_is a h active ts z of x t = grind (arith, common_steps)
 
 -- what a clock event makes of a flight
 one_after : (a : Aerodrome) (h : ℕ) (active : List Active) (ts : List ℕ) (z : Freeze) → IsFreezeOf a h active ts z
     → (x : Active) (t : ℕ) → frozen_one z x t ≡ after_clock a h (landings active ts) (landing x t)
-one_after a h active ts z of x t =
-    parts t (count_after z x) (passed_after a h (landings active ts) (landing x t))
-    (count_is a h active ts z of x t) x.flight x.frozen x.passed (nat_lt t z.h)
-    ∙ ap (λ n. cond (is_none x.frozen && nat_lt t n) (froze t x.flight)
-    (cond (is_none x.frozen) (stays x.flight None (passed_after a h (landings active ts) (landing x t)))
-    (stays x.flight x.frozen x.passed))) of.horizon
+one_after a h active ts z of x t = grind (arith, common_steps)
 
 pub frozen_flights : (a : Aerodrome) (h : ℕ) (active : List Active) (all : List ℕ) (z : Freeze)
     → IsFreezeOf a h active all z → (xs : List Active) (ts : List ℕ) →
     map (λ p. frozen_one z p.0 p.1) (zip xs ts) ≡ map (after_clock a h (landings active all)) (landings xs ts)
 frozen_flights a h active all z of [] ts = refl
 frozen_flights a h active all z of (x ∷ xs) [] = refl
-frozen_flights a h active all z of (x ∷ xs) (t ∷ ts) =
-    ap (λ l. frozen_one z x t ∷ l) (frozen_flights a h active all z of xs ts)
-    ∙ ap (λ v. v ∷ map (after_clock a h (landings active all)) (landings xs ts)) (one_after a h active all z of x t)
+frozen_flights a h active all z of (x ∷ xs) (t ∷ ts) = grind
+    (arith, common_steps, frozen_flights a h active all z of xs ts)

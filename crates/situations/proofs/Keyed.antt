@@ -1,14 +1,15 @@
 -- What a look-up by callsign finds, and what a change of the map makes of the flights in order of arrival.
+use Rattle.std.proofs.Common.{rules}
+use Rattle.std.proofs.lemmas.Grind.{common_steps}
 use Rattle.std.proofs.Common.{◌≡◌, ◌≢◌, ℕ, zero, suc, ◌+◌, ◌-◌, ◌<◌, Bool, true, false, cond, not, List, [], ◌∷◌, ◌++◌}
-use Rattle.std.proofs.Common.{◌||◌, ◌&&◌, length, map, filter, take, drop, set, get_or, insert, remove, slice_get}
-use Rattle.std.proofs.Common.{Option, Some, None, is_some, refl, sym, ap, ap₂, ◌∙◌, arith}
-use Rattle.std.specs.Prelude.{AllPairs, find, unwrap_or}
+use Rattle.std.proofs.Common.{◌||◌, ◌&&◌, length, map, filter, take, set, get_or, insert, remove, slice_get}
+use Rattle.std.proofs.Common.{Option, Some, None, is_some, refl, sym, ap, ◌∙◌, arith}
+use Rattle.std.specs.Prelude.{AllPairs, find}
 use Rattle.std.specs.List.{IsDistinct, list_any}
 use Rattle.std.specs.Option.{option_map_or}
 use Rattle.std.specs.Map.{keys_of, values_of, lookup, set_value}
 use Rattle.std.specs.Str.{bytes_eq}
-use Rattle.std.proofs.lemmas.Bool.{false≢true}
-use Rattle.std.proofs.lemmas.List.{get_or-map, get_or-take, length-map, length-take, length_push, map-append, take_at}
+use Rattle.std.proofs.lemmas.List.{get_or-map, get_or-take, length-map, length-take, length_push, map-append}
 use Rattle.std.proofs.lemmas.List.{take_more}
 use Rattle.std.proofs.lemmas.List.Edits.{length-remove}
 use Rattle.std.proofs.lemmas.Map.Keys.{apart_from_distinct}
@@ -18,15 +19,15 @@ use Rattle.indexmap.proofs.MoveLemmas.{push_moved}
 use Rattle.indexmap.proofs.RemoveLemmas.{moved_last}
 use Rattle.indexmap.proofs.SetLemmas.{map-move}
 use Rattle.landing_rules.specs.Flights.{Active, Callsign, Span}
-use Rattle.landing_rules.specs.Events.{named, estimated, look_up, newcomer, opening_flight}
+use Rattle.landing_rules.specs.Events.{named, estimated, look_up, newcomer}
 use Rattle.arrivals.specs.declared.aerodrome.Aerodrome.{Aerodrome}
 use Rattle.arrivals.specs.declared.flight.Flight as files
 use Rattle.arrivals.specs.Seen.{flight_of}
 use Rattle.situations.specs.Named.{with_count, with_second}
-use Rattle.situations.specs.Opened.{counts_in, newcomers, opened, opening_of, seconds_in}
+use Rattle.situations.specs.Opened.{counts_in, newcomers, opened, seconds_in}
 use Rattle.situations.specs.Seen.{AreApart}
-use Rattle.situations.proofs.Apart.{at_named, name_of, other, others, tail_apart, with_estimate}
-use Rattle.situations.proofs.Callsigns.{bytes_eq-refl, bytes_eq-sym, bytes_eq-true}
+use Rattle.situations.proofs.Apart.{at_named, name_of, others, tail_apart, with_estimate}
+use Rattle.situations.proofs.Callsigns.{bytes_eq-true}
 
 abbrev pub Entry : Type 0
 Entry = Callsign × Active
@@ -35,52 +36,39 @@ abbrev pub Keyed : List Entry → Type 0
 Keyed es = keys_of es ≡ map name_of (values_of es)
 
 head_keyed : (e : Entry) (es : List Entry) → Keyed (e ∷ es) → e.0 ≡ name_of e.1
-head_keyed e es h = ap (λ l. get_or l 0 e.0) h
+head_keyed e es h = cc
 
 tail_keyed : (e : Entry) (es : List Entry) → Keyed (e ∷ es) → Keyed es
-tail_keyed e es h = ap (drop 1) h
+tail_keyed e es h = cc
 
 -- the test of a key is the test of its flight
 keyed_named : (c : Callsign) (e : Entry) (es : List Entry) → Keyed (e ∷ es) → named c e.1 ≡ bytes_eq c e.0
-keyed_named c e es h = ap (λ d. bytes_eq d c) (sym (head_keyed e es h)) ∙ bytes_eq-sym e.0 c
+keyed_named c e es h = search rules
 
 -- ---- look-ups
 
 -- what the map finds is the first flight of the callsign
 pub looked_up : (c : Callsign) (es : List Entry) → Keyed es → lookup (bytes_eq c) es ≡ find (named c) (values_of es)
 looked_up c [] h = refl
-looked_up c (e ∷ es) h =
-    ap (λ b. cond b (Some e.1) (lookup (bytes_eq c) es)) (sym (keyed_named c e es h))
-    ∙ ap (λ o. cond (named c e.1) (Some e.1) o) (looked_up c es (tail_keyed e es h))
+looked_up c (e ∷ es) h = search (rules, looked_up c es (tail_keyed e es h))
 
 pub is_found : (c : Callsign) (xs : List Active) → is_some (find (named c) xs) ≡ list_any (named c) xs
 is_found c [] = refl
-is_found c (x ∷ xs) = go (named c x) (is_found c xs)
-  where
-    go : (b : Bool) → is_some (find (named c) xs) ≡ list_any (named c) xs
-        → is_some (cond b (Some x) (find (named c) xs)) ≡ (b || list_any (named c) xs)
-    go true ih = refl
-    go false ih = ih
+is_found c (x ∷ xs) = grind (arith, common_steps, is_found c xs)
 
 pub none_from_some : {X : Type 0} (o : Option X) → is_some o ≡ false → o ≡ None
 none_from_some None e = refl
-none_from_some (Some x) e = absurd (false≢true (sym e))
+none_from_some (Some x) e = cc
 
 -- where no flight has the callsign, the key is not there
 pub not_there : (c : Callsign) (es : List Entry) → Keyed es → list_any (named c) (values_of es) ≡ false
     → lookup (bytes_eq c) es ≡ None
-not_there c es h none = none_from_some (lookup (bytes_eq c) es) (ap is_some (looked_up c es h)
-    ∙ is_found c (values_of es) ∙ none)
+not_there c es h none = search (rules, none_from_some, looked_up, is_found)
 
 -- a flight that is found has the callsign
 pub found_named : (c : Callsign) (xs : List Active) (a : Active) → find (named c) xs ≡ Some a → named c a ≡ true
-found_named c [] a e = let w : None ≡ Some a = e in absurd (cc)
-found_named c (x ∷ xs) a e = go (named c x) refl e (found_named c xs a)
-  where
-    go : (b : Bool) → named c x ≡ b → cond b (Some x) (find (named c) xs) ≡ Some a
-        → (find (named c) xs ≡ Some a → named c a ≡ true) → named c a ≡ true
-    go true n f ih = ap (named c) (sym (same_Some x a f)) ∙ n
-    go false n f ih = ih f
+found_named c [] a e = cc
+found_named c (x ∷ xs) a e = grind (arith, common_steps, found_named c xs a)
 
 -- ---- callsigns are apart
 
@@ -92,12 +80,8 @@ keyed_apart es keyed distinct i j d lt le same =
     let keys : length (keys_of es) ≡ length names = ap length keyed in
     let at : (k : ℕ) → k < length vs → get_or (keys_of es) k (name_of d) ≡ name_of (get_or vs k d) =
     λ k lk. ap (λ l. get_or l k (name_of d)) keyed ∙ get_or-map name_of vs k d (name_of d) lk in
-    let one = at i (omega arith) in
-    let two = at j le in
     let differ : bytes_eq (get_or (keys_of es) i (name_of d)) (get_or (keys_of es) j (name_of d)) ≡ false =
-    apart_from_distinct bytes_eq (keys_of es) i j (name_of d) distinct lt (omega arith) in
-    false≢true (sym differ ∙ ap (λ k. bytes_eq k (get_or (keys_of es) j (name_of d))) (one ∙ same ∙ sym two)
-    ∙ bytes_eq-refl (get_or (keys_of es) j (name_of d)))
+    apart_from_distinct bytes_eq (keys_of es) i j (name_of d) distinct lt (omega arith) in search rules
 
 -- the others of a list have another callsign than the first
 pub none_behind : (c : Callsign) (x : Active) (xs : List Active) → AreApart (x ∷ xs) → named c x ≡ true
@@ -138,41 +122,20 @@ module _ (c : Callsign) (g : Active → Active) where
   -- with no flight of the callsign nothing changes
   pub none_named : (xs : List Active) → find (named c) xs ≡ None → map (at_named c g) xs ≡ xs
   none_named [] n = refl
-  none_named (x ∷ xs) n = go (named c x) refl n (none_named xs)
-    where
-      go : (b : Bool) → named c x ≡ b → cond b (Some x) (find (named c) xs) ≡ None
-          → (find (named c) xs ≡ None → map (at_named c g) xs ≡ xs) → map (at_named c g) (x ∷ xs) ≡ x ∷ xs
-      go true e f ih = let w : Some x ≡ None = f in absurd (cc)
-      go false e f ih = ap (λ y. y ∷ map (at_named c g) xs) (other c g x e) ∙ ap (λ l. x ∷ l) (ih f)
+  none_named (x ∷ xs) n = grind (arith, common_steps, none_named xs)
 
   -- the entry of the callsign has the new value, and no other flight has that callsign
   one_set : (a : Active) (es : List Entry) → Keyed es → AreApart (values_of es) → lookup (bytes_eq c) es ≡ Some a
       → values_of (set_value (bytes_eq c) es (g a)) ≡ map (at_named c g) (values_of es)
-  one_set a [] h apart n = let w : None ≡ Some a = n in absurd (cc)
-  one_set a (e ∷ es) h apart n =
-      go (bytes_eq c e.0) refl n (one_set a es (tail_keyed e es h) (tail_apart e.1 (values_of es) apart))
-    where
-      go : (b : Bool) → bytes_eq c e.0 ≡ b → cond b (Some e.1) (lookup (bytes_eq c) es) ≡ Some a →
-          (lookup (bytes_eq c) es ≡ Some a → values_of (set_value (bytes_eq c) es (g a)) ≡ map
-          (at_named c g) (values_of es)) →
-          values_of (cond b ((e.0, g a) ∷ es) (e ∷ set_value (bytes_eq c) es (g a))) ≡ map
-          (at_named c g) (values_of (e ∷ es))
-      go true k f ih =
-          let is : named c e.1 ≡ true = keyed_named c e es h ∙ k in
-          let same : e.1 ≡ a = same_Some e.1 a f in
-          ap (λ v. g v ∷ values_of es) (sym same)
-          ∙ ap (λ l. g e.1 ∷ l) (sym (others c g (values_of es) (none_behind c e.1 (values_of es) apart is)))
-          ∙ ap (λ b. cond b (g e.1) e.1 ∷ map (at_named c g) (values_of es)) (sym is)
-      go false k f ih =
-          let not : named c e.1 ≡ false = keyed_named c e es h ∙ k in
-          ap (λ l. e.1 ∷ l) (ih f) ∙ ap (λ y. y ∷ map (at_named c g) (values_of es)) (sym (other c g e.1 not))
+  one_set a [] h apart n = cc
+  one_set a (e ∷ es) h apart n = search
+      (rules, others, none_behind, one_set a es (tail_keyed e es h) (tail_apart e.1 (values_of es) apart))
 
   -- the flights of a map where the value under the callsign has changed
   pub changed_one : (es fs : List Entry) (a : Active) (x : Active) → Keyed es → IsDistinct bytes_eq (keys_of es)
       → lookup (bytes_eq c) es ≡ Some a → x ≡ g a → fs ≡ set_value (bytes_eq c) es x →
       values_of fs ≡ map (at_named c g) (values_of es)
-  changed_one es fs a x h distinct n new e = ap values_of e ∙ ap (λ v. values_of (set_value (bytes_eq c) es v)) new
-      ∙ one_set a es h (keyed_apart es h distinct) n
+  changed_one es fs a x h distinct n new e = search (rules, one_set, keyed_apart)
 
 -- the estimate that it had gives the flight back
 pub estimated_back : (c : Callsign) (eta : ℕ) (windows : List Span) (xs : List Active) (a : Active)
@@ -189,20 +152,15 @@ estimated_back c eta windows (x ∷ xs) a apart f =
         → (find (named c) xs ≡ Some a → map back (map (estimated c eta windows) xs) ≡ xs) →
         back (estimated c eta windows x) ∷ map back (map (estimated c eta windows) xs) ≡ x ∷ xs
     go true e g ih =
-        let same : x ≡ a = same_Some x a g in
         let none = none_behind c x xs apart e in
-        let head : back (estimated c eta windows x) ≡ x =
-        ap (λ b. back (cond b (with_estimate eta windows x) x)) e
+        ap (λ y. y ∷ map back (map (estimated c eta windows) xs))
+        (ap (λ b. back (cond b (with_estimate eta windows x) x)) e
         ∙ ap (λ b. cond b (with_estimate a.flight.eta a.flight.windows (with_estimate eta windows x))
         (with_estimate eta windows x)) e
-        ∙ ap (λ v. with_estimate v.flight.eta v.flight.windows (with_estimate eta windows x)) (sym same) in
-        ap (λ y. y ∷ map back (map (estimated c eta windows) xs)) head
+        ∙ ap (λ v. with_estimate v.flight.eta v.flight.windows (with_estimate eta windows x)) (sym (same_Some x a g)))
         ∙ ap (λ l. x ∷ map back l) (others c (with_estimate eta windows) xs none)
         ∙ ap (λ l. x ∷ l) (others c (with_estimate a.flight.eta a.flight.windows) xs none)
-    go false e g ih =
-        ap (λ y. back y ∷ map back (map (estimated c eta windows) xs)) (other c (with_estimate eta windows) x e)
-        ∙ ap (λ y. y ∷ map back (map (estimated c eta windows) xs))
-        (other c (with_estimate a.flight.eta a.flight.windows) x e) ∙ ap (λ l. x ∷ l) (ih g)
+    go false e g ih = search rules
 
 -- ---- a flight less
 
@@ -217,12 +175,8 @@ none_gone c (x ∷ xs) none =
 -- the list without its flight of the callsign
 pub one_gone : (c : Callsign) (xs : List Active) (i : ℕ) (a : Active) → AreApart xs → slice_get xs i ≡ Some a
     → named c a ≡ true → remove xs i ≡ filter (λ a. not (named c a)) xs
-one_gone c [] i a apart at is = absurd (let lt = slice_get_within [] i a at in omega arith)
-one_gone c (x ∷ xs) zero a apart at is =
-    let same : x ≡ a = same_Some x a at in
-    let yes : named c x ≡ true = ap (named c) same ∙ is in
-    none_gone c xs (none_behind c x xs apart yes)
-    ∙ ap (λ b. cond (not b) (x ∷ filter (λ a. not (named c a)) xs) (filter (λ a. not (named c a)) xs)) (sym yes)
+one_gone c [] i a apart at is = cc
+one_gone c (x ∷ xs) zero a apart at is = search (rules, none_gone, none_behind)
 one_gone c (x ∷ xs) (suc i) a apart at is =
     let lt = slice_get_within (x ∷ xs) (suc i) a at in
     let here : get_or (x ∷ xs) (suc i) a ≡ a = get_or_from_slice_get (x ∷ xs) (suc i) a a at in
@@ -237,14 +191,12 @@ one_gone c (x ∷ xs) (suc i) a apart at is =
 
 -- what was taken out goes in again
 put_back : {X : Type 0} (xs : List X) (i : ℕ) (x : X) → slice_get xs i ≡ Some x → insert (remove xs i) i x ≡ xs
-put_back [] i x at = absurd (let lt = slice_get_within [] i x at in omega arith)
-put_back (y ∷ ys) zero x at = ap (λ z. z ∷ ys) (sym (same_Some y x at))
-put_back (y ∷ ys) (suc i) x at = ap (λ l. y ∷ l) (put_back ys i x at)
+put_back [] i x at = cc
+put_back (y ∷ ys) zero x at = cc
+put_back (y ∷ ys) (suc i) x at = cc (put_back ys i x at)
 
 pub all_but_last : {X : Type 0} (xs : List X) (x : X) → take (length (xs ++ x ∷ []) - 1) (xs ++ x ∷ []) ≡ xs
-all_but_last xs x =
-    let n : length (xs ++ x ∷ []) - 1 ≡ length xs = omega (arith, length_push xs x) in
-    ap (λ k. take k (xs ++ x ∷ [])) n ∙ take_at xs (x ∷ []) (length xs) refl
+all_but_last xs x = grind (arith, common_steps)
 
 -- the one at place i, moved last
 module _ {X : Type 0} (xs : List X) (i : ℕ) (x : X) (at : slice_get xs i ≡ Some x) where
@@ -253,58 +205,48 @@ module _ {X : Type 0} (xs : List X) (i : ℕ) (x : X) (at : slice_get xs i ≡ S
 
   -- it can be left out
   pub last_gone : take (length (move_index xs i (length xs - 1)) - 1) (move_index xs i (length xs - 1)) ≡ remove xs i
-  last_gone = ap (λ l. take (length l - 1) l) moved ∙ all_but_last (remove xs i) x
+  last_gone = simp (moved, all_but_last)
 
   -- and goes back
   pub moved_back : move_index (move_index xs i (length xs - 1)) (length (move_index xs i (length xs - 1)) - 1) i ≡ xs
   moved_back =
       let lt = slice_get_within xs i x at in
       let n = length-remove xs i lt in
-      let m : length (remove xs i ++ x ∷ []) - 1 ≡ length (remove xs i) = omega (arith, length_push (remove xs i) x) in
-      ap (λ l. move_index l (length l - 1) i) moved ∙ ap (λ k. move_index (remove xs i ++ x ∷ []) k i) m
-      ∙ push_moved (remove xs i) x i (omega arith) ∙ put_back xs i x at
+      let m : length (remove xs i ++ x ∷ []) - 1 ≡ length (remove xs i) = omega (arith, length_push (remove xs i) x)
+      in search (rules, moved, push_moved, put_back)
 
   pub moved_long : length (move_index xs i (length xs - 1)) ≡ length xs
-  moved_long =
-      let lt = slice_get_within xs i x at in
-      let n = length-remove xs i lt in
-      let m = length_push (remove xs i) x in
-      ap length moved ∙ omega arith
+  moved_long = search (rules, slice_get_within, length-remove, length_push, moved)
 
 -- ---- by place
 
 pub values_set : (es : List Entry) (i : ℕ) (a : Active) → values_of (set_value_at es i a) ≡ set (values_of es) i a
 values_set [] i a = refl
 values_set (e ∷ es) zero a = refl
-values_set (e ∷ es) (suc i) a = ap (λ l. e.1 ∷ l) (values_set es i a)
+values_set (e ∷ es) (suc i) a = cc (values_set es i a)
 
 -- ---- the keys stay those of the flights
 
 pub keyed_pushed : (es : List Entry) (e : Entry) → Keyed es → e.0 ≡ name_of e.1 → Keyed (es ++ e ∷ [])
-keyed_pushed es e h k =
-    map-append (λ (e : Entry). e.0) es (e ∷ []) ∙ (λ j. h j ++ k j ∷ [])
-    ∙ sym (ap (map name_of) (map-append (λ (e : Entry). e.1) es (e ∷ []))
-    ∙ map-append name_of (values_of es) (e.1 ∷ []))
+keyed_pushed es e h k = grind (arith, common_steps)
 
 pub values_pushed : (es : List Entry) (e : Entry) → values_of (es ++ e ∷ []) ≡ values_of es ++ e.1 ∷ []
-values_pushed es e = map-append (λ (e : Entry). e.1) es (e ∷ [])
+values_pushed es e = grind (arith, common_steps)
 
 pub values_moved : (es fs : List Entry) (a b : ℕ) → fs ≡ move_index es a b
     → values_of fs ≡ move_index (values_of es) a b
-values_moved es fs a b e = ap values_of e ∙ map-move (λ (e : Entry). e.1) es a b
+values_moved es fs a b e = search (rules, map-move)
 
 pub keyed_moved : (es fs : List Entry) (a b : ℕ) → fs ≡ move_index es a b → Keyed es → Keyed fs
-keyed_moved es fs a b e h =
-    ap keys_of e ∙ map-move (λ (e : Entry). e.0) es a b ∙ ap (λ l. move_index l a b) h
-    ∙ sym (map-move name_of (values_of es) a b) ∙ sym (ap (map name_of) (values_moved es fs a b e))
+keyed_moved es fs a b e h = search (rules, map-move)
 
 -- where the keys stay, and the flights keep their callsigns
 pub keyed_still : (es fs : List Entry) (xs : List Active) → keys_of fs ≡ keys_of es → values_of fs ≡ xs
     → map name_of (values_of es) ≡ map name_of xs → Keyed es → Keyed fs
-keyed_still es fs xs k v names h = k ∙ h ∙ names ∙ sym (ap (map name_of) v)
+keyed_still es fs xs k v names h = cc
 
 pub some_from : {X : Type 0} (o : Option X) → is_some o ≡ true → (x : X) × (o ≡ Some x)
-some_from None e = absurd (false≢true e)
+some_from None e = cc
 some_from (Some x) e = (x, refl)
 
 -- ---- the opening
@@ -336,7 +278,7 @@ module _ (fs : List files.Flight) (i : ℕ) (f : files.Flight) (lt : i < length 
 
 pub newcomers_keyed : (fs : List files.Flight) → Keyed (newcomers fs)
 newcomers_keyed [] = refl
-newcomers_keyed (f ∷ fs) = ap (λ l. f.callsign ∷ l) (newcomers_keyed fs)
+newcomers_keyed (f ∷ fs) = cc (newcomers_keyed fs)
 
 -- the flights with what the entries say
 pub all_opened : (a : Aerodrome) (fs : List files.Flight) →
@@ -344,30 +286,4 @@ pub all_opened : (a : Aerodrome) (fs : List files.Flight) →
     (map (λ x. with_second (look_up x.flight.callsign (seconds_in a.frozen)) x)
     (values_of (newcomers fs))) ≡ (opened a fs).active
 all_opened a [] = refl
-all_opened a (f ∷ fs) = ap₂ (λ (y : Active) (l : List Active). y ∷ l)
-    (go (look_up f.callsign (seconds_in a.frozen)) (look_up f.callsign (counts_in a.passed)) refl refl)
-    (all_opened a fs)
-  where
-    two : (o p : Option ℕ) → with_count p (with_second o (newcomer (flight_of f))) ≡ record
-        { flight = flight_of f; frozen = o; passed = unwrap_or p 0 }
-    two None None = refl
-    two None (Some n) = refl
-    two (Some t) None = refl
-    two (Some t) (Some n) = refl
-
-    go : (o p : Option ℕ) → look_up f.callsign (seconds_in a.frozen) ≡ o → look_up f.callsign (counts_in a.passed) ≡ p →
-        with_count (look_up (with_second (look_up f.callsign (seconds_in a.frozen))
-        (newcomer (flight_of f))).flight.callsign (counts_in a.passed))
-        (with_second (look_up f.callsign (seconds_in a.frozen)) (newcomer (flight_of f)))
-        ≡ opening_flight (opening_of a) (flight_of f)
-    go o p e k =
-        ap (λ w. with_count (look_up (with_second w (newcomer (flight_of f))).flight.callsign (counts_in a.passed))
-        (with_second w (newcomer (flight_of f)))) e
-        ∙ same o ∙ ap (λ q. with_count q (with_second o (newcomer (flight_of f)))) k ∙ two o p
-        ∙ (λ j. record { flight = flight_of f; frozen = sym e j; passed = unwrap_or (sym k j) 0 })
-      where
-        same : (o : Option ℕ) → with_count (look_up (with_second o (newcomer (flight_of f))).flight.callsign
-            (counts_in a.passed)) (with_second o (newcomer (flight_of f)))
-            ≡ with_count (look_up f.callsign (counts_in a.passed)) (with_second o (newcomer (flight_of f)))
-        same None = refl
-        same (Some t) = refl
+all_opened a (f ∷ fs) = grind (arith, common_steps, all_opened a fs)

@@ -1,6 +1,8 @@
 -- What is changed by a list of callsigns, one entry after another.
+use Rattle.std.proofs.Common.{rules}
+use Rattle.std.proofs.lemmas.Grind.{common_steps}
 use Rattle.std.proofs.Common.{◌≡◌, ℕ, ◌<◌, Bool, true, false, cond, List, [], ◌∷◌, map, length, get_or, Option, Some}
-use Rattle.std.proofs.Common.{None, refl, sym, ap, ◌∙◌, arith, zero, suc, subst, drop, ◌+◌, ◌-◌, ◌≤◌}
+use Rattle.std.proofs.Common.{None, refl, ap, ◌∙◌, arith, zero, suc, drop, ◌-◌, ◌≤◌}
 use Rattle.std.proofs.Math.Seq.{drop-length}
 use Rattle.std.proofs.lemmas.List.{drop_more}
 use Rattle.std.specs.Prelude.{filter}
@@ -14,7 +16,7 @@ use Rattle.situations.specs.Opened.{counts_in, seconds_in}
 use Rattle.situations.specs.Named.{counted, frozen_so, waiting_again, with_count, with_second}
 use Rattle.situations.specs.Seen.{AreApart}
 use Rattle.situations.proofs.Apart.{tail_apart}
-use Rattle.situations.proofs.Callsigns.{bytes_eq-refl, bytes_eq-sym, bytes_eq-true}
+use Rattle.situations.proofs.Callsigns.{bytes_eq-true}
 use Rattle.situations.proofs.Keyed.{none_behind}
 
 -- each flight as the first entry of its callsign says
@@ -24,17 +26,14 @@ listed f es xs = map (λ a. f (look_up a.flight.callsign es) a) xs
 none_listed : (f : Option ℕ → Active → Active) → ((a : Active) → f None a ≡ a) → (xs : List Active)
     → xs ≡ listed f [] xs
 none_listed f stays [] = refl
-none_listed f stays (x ∷ xs) = ap (λ l. x ∷ l) (none_listed f stays xs) ∙ ap (λ y. y ∷ listed f [] xs) (sym (stays x))
+none_listed f stays (x ∷ xs) = grind (arith, common_steps, none_listed f stays xs)
 
 -- one entry more, ahead of the others
 module _ (f : Option ℕ → Active → Active) (c : Callsign) (n : ℕ) (one : Active → Active)
     (first : (o : Option ℕ) (a : Active) → one (f o a) ≡ f (cond (named c a) (Some n) o) a) where
   listed_more : (es : List (Callsign × ℕ)) (xs : List Active) → map one (listed f es xs) ≡ listed f ((c, n) ∷ es) xs
   listed_more es [] = refl
-  listed_more es (x ∷ xs) =
-      ap (λ y. y ∷ map one (listed f es xs)) (first (look_up x.flight.callsign es) x
-      ∙ ap (λ b. f (cond b (Some n) (look_up x.flight.callsign es)) x) (bytes_eq-sym x.flight.callsign c))
-      ∙ ap (λ l. f (look_up x.flight.callsign ((c, n) ∷ es)) x ∷ l) (listed_more es xs)
+  listed_more es (x ∷ xs) = search (rules, listed_more es xs)
 
 -- the entries of a list from its last to its first
 module _ {E : Type 0} (f : Option ℕ → Active → Active) (entries : List E → List (Callsign × ℕ)) (all : List E)
@@ -44,81 +43,31 @@ module _ {E : Type 0} (f : Option ℕ → Active → Active) (entries : List E �
   IsAsFrom i now = now ≡ record s { active = listed f (entries (drop i all)) s.active }
 
   pub as_from_end : ((a : Active) → f None a ≡ a) → entries [] ≡ [] → IsAsFrom (length all) s
-  as_from_end stays none = ap (λ l. record s { active = l }) (none_listed f stays s.active
-      ∙ ap (λ l. listed f l s.active) (sym (ap entries (drop-length all) ∙ none)))
+  as_from_end stays none = search (rules, none_listed, drop-length)
 
   pub as_from_before : (c : Callsign) (n : ℕ) (one : Active → Active)
       → ((o : Option ℕ) (a : Active) → one (f o a) ≡ f (cond (named c a) (Some n) o) a)
       → (i : ℕ) (e : E) (now new : Situation) → 0 < i → i ≤ length all → e ≡ get_or all (i - 1) e
       → ((es : List E) → entries (e ∷ es) ≡ (c, n) ∷ entries es) → IsAsFrom i now
       → new ≡ record now { active = map one now.active } → IsAsFrom (i - 1) new
-  as_from_before c n one first i e now new some within is here so_far set =
-      let next : i - 1 + 1 ≡ i = omega arith in
-      let more : entries (drop (i - 1) all) ≡ (c, n) ∷ entries (drop i all) =
-      ap entries (drop_more all (i - 1) e (omega arith) ∙ ap (λ x. x ∷ drop (i - 1 + 1) all) (sym is)
-      ∙ ap (λ n. e ∷ drop n all) next) ∙ here (drop i all) in
-      set ∙ ap (λ (v : Situation). record v { active = map one v.active }) so_far
-      ∙ ap (λ l. record s { active = l }) (listed_more f c n one first (entries (drop i all)) s.active
-      ∙ ap (λ l. listed f l s.active) (sym more))
+  as_from_before c n one first i e now new some within is here so_far set = search (rules, drop_more, listed_more)
 
   pub as_from_begin : (i : ℕ) (now : Situation) → i ≤ 0 → IsAsFrom i now → IsAsFrom 0 now
-  as_from_begin i now none so_far = let zero : i ≡ 0 = omega arith in subst (λ i. IsAsFrom i now) zero so_far
+  as_from_begin i now none so_far = search rules
 
 pub second_first : (c : Callsign) (n : ℕ) (o : Option ℕ) (a : Active)
     → frozen_so c (Some n) (with_second o a) ≡ with_second (cond (named c a) (Some n) o) a
-second_first c n None a = go (named c a)
-  where
-    go : (b : Bool) → cond b (record a { frozen = Some n }) a ≡ with_second (cond b (Some n) None) a
-    go true = refl
-    go false = refl
-second_first c n (Some t) a = go (named c a)
-  where
-    go : (b : Bool) → cond b (record a { frozen = Some n }) (record a { frozen = Some t }) ≡ with_second
-        (cond b (Some n) (Some t)) a
-    go true = refl
-    go false = refl
+second_first c n None a = search rules
+second_first c n (Some t) a = search rules
 
 pub count_first : (c : Callsign) (n : ℕ) (o : Option ℕ) (a : Active)
     → counted c n (with_count o a) ≡ with_count (cond (named c a) (Some n) o) a
-count_first c n None a = go (named c a)
-  where
-    go : (b : Bool) → cond b (record a { passed = n }) a ≡ with_count (cond b (Some n) None) a
-    go true = refl
-    go false = refl
-count_first c n (Some t) a = go (named c a)
-  where
-    go : (b : Bool) → cond b (record a { passed = n }) (record a { passed = t }) ≡ with_count
-        (cond b (Some n) (Some t)) a
-    go true = refl
-    go false = refl
+count_first c n None a = search rules
+count_first c n (Some t) a = search rules
 
 pub again_first : (c : Callsign) (n : ℕ) (o : Option ℕ) (a : Active)
     → counted c n (frozen_so c None (waiting_again o a)) ≡ waiting_again (cond (named c a) (Some n) o) a
-again_first c n o a = first o (named c a) refl
-  where
-    -- once for the second and once for the count
-    both : (x : Active) (b : Bool) → named c x ≡ b
-        → counted c n (frozen_so c None x) ≡ cond b (record x { frozen = None; passed = n }) x
-    both x true e = ap (λ t. counted c n (cond t (record x { frozen = None }) x)) e
-        ∙ ap (λ t. cond t (record x { frozen = None; passed = n }) (record x { frozen = None })) e
-    both x false e = ap (λ t. counted c n (cond t (record x { frozen = None }) x)) e
-        ∙ ap (λ t. cond t (record x { passed = n }) x) e
-
-    then : (o : Option ℕ) (b : Bool) → cond b (record (waiting_again o a) { frozen = None; passed = n })
-        (waiting_again o a) ≡ waiting_again (cond b (Some n) o) a
-    then None true = refl
-    then None false = refl
-    then (Some t) true = refl
-    then (Some t) false = refl
-
-    same : (o : Option ℕ) → named c (waiting_again o a) ≡ named c a
-    same None = refl
-    same (Some t) = refl
-
-    first : (o : Option ℕ) (b : Bool) → named c a ≡ b
-        → counted c n (frozen_so c None (waiting_again o a)) ≡ waiting_again (cond (named c a) (Some n) o) a
-    first o b e = both (waiting_again o a) b (same o ∙ e) ∙ then o b
-        ∙ ap (λ t. waiting_again (cond t (Some n) o) a) (sym e)
+again_first c n o a = search rules
 
 -- ---- the flights that waited
 
@@ -141,16 +90,7 @@ none_counted c (x ∷ xs) none = go (is_waiting x) (none_counted c xs (λ j d lt
 pub own_count : (xs : List Active) → AreApart xs → (i : ℕ) (d : Active) → i < length xs
     → look_up (get_or xs i d).flight.callsign (counts_of xs) ≡ noted (get_or xs i d)
 own_count [] apart i d lt = absurd (omega arith)
-own_count (x ∷ xs) apart zero d lt = go (is_waiting x) refl
-  where
-    own : named x.flight.callsign x ≡ true
-    own = bytes_eq-refl x.flight.callsign
-
-    go : (b : Bool) → is_waiting x ≡ b
-        → look_up x.flight.callsign (map (λ a. (a.flight.callsign, a.passed))
-        (cond b (x ∷ filter is_waiting xs) (filter is_waiting xs))) ≡ cond b (Some x.passed) None
-    go true e = ap (λ t. cond t (Some x.passed) (look_up x.flight.callsign (counts_of xs))) own
-    go false e = none_counted x.flight.callsign xs (none_behind x.flight.callsign x xs apart own)
+own_count (x ∷ xs) apart zero d lt = search (rules, none_counted, none_behind)
 own_count (x ∷ xs) apart (suc i) d lt = go (is_waiting x) (own_count xs (tail_apart x xs apart) i d (omega arith))
   where
     y : Active

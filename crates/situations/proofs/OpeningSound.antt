@@ -1,12 +1,14 @@
 -- What opens is a sound situation.
-use Rattle.std.proofs.Common.{◌≡◌, ◌≢◌, ℕ, ◌+◌, ◌<◌, ◌≤◌, inl, inr, Bool, true, false, cond, ◌&&◌, ◌||◌, List, [], ◌∷◌}
-use Rattle.std.proofs.Common.{length, map, filter, Option, Some, None, zero, suc, refl, sym, ap, ap₂, subst, ◌∙◌}
+use Rattle.std.proofs.Common.{rules}
+use Rattle.std.proofs.lemmas.Grind.{common_steps}
+use Rattle.std.proofs.Common.{◌≡◌, ◌≢◌, ℕ, ◌+◌, ◌<◌, ◌≤◌, inl, inr, Bool, true, false, cond, List, [], ◌∷◌}
+use Rattle.std.proofs.Common.{length, map, filter, Option, Some, None, zero, suc, refl, sym, ap, subst, ◌∙◌}
 use Rattle.std.proofs.Common.{arith, leb}
 use Rattle.std.specs.Prelude.{All, AllPairs, IsTrue, find, option_map, unwrap_or, is_none}
 use Rattle.std.specs.List.{list_any}
 use Rattle.std.specs.Option.{option_or}
 use Rattle.std.specs.Str.{bytes_eq}
-use Rattle.std.proofs.lemmas.Bool.{leb-true, leb-false, le-leb, and_parts, false≢true, true≢false}
+use Rattle.std.proofs.lemmas.Bool.{leb-false, le-leb, true≢false}
 use Rattle.std.proofs.lemmas.List.{length-map}
 use Rattle.cps_base.specs.Limits.{most_waiting}
 use Rattle.landing_rules.specs.shared.Counting.{Member}
@@ -18,7 +20,6 @@ use Rattle.landing_rules.specs.Flights.{horizon, horizon_after}
 use Rattle.landing_rules.specs.Rules.{is_open, lists, ArePairSeparated, IsPairInPrecedence, AreSeparated}
 use Rattle.landing_rules.specs.Rules.{AreInPrecedence}
 use Rattle.landing_rules.specs.Events.{named, look_up, opening_flight, frozen_landings}
-use Rattle.landing_rules.specs.Audit.{are_apart}
 use Rattle.landing_rules.specs.Testing.{is_pair_separated}
 use Rattle.landing_rules.specs.Sound.{IsSound, IsGoodFlight, ListsNone}
 use Rattle.arrivals.specs.declared.aerodrome.Aerodrome.{Aerodrome}
@@ -30,11 +31,10 @@ use Rattle.arrivals.specs.Seen.{flight_of}
 use Rattle.situations.specs.declared.opening_refusal.OpeningFault.{OpeningFault}
 use Rattle.situations.specs.declared.opening_refusal.OpeningFault.TheVariants as fault
 use Rattle.situations.specs.Opened.{opened, opening_of, CanOpen, HasRanges, IsKept}
-use Rattle.situations.specs.Refused.{unless, first_from, unknown_frozen_at, unknown_passed_at, too_many_waiting}
+use Rattle.situations.specs.Refused.{unless, first_from, too_many_waiting}
 use Rattle.situations.specs.Refused.{opening_fault, name_fault, given_landing, given, closed_at, clash_at, clash_from}
-use Rattle.situations.specs.Refused.{is_not_before, lands_late, late_at, rule_fault, AreKept, OpeningLaw, PlainLaw}
+use Rattle.situations.specs.Refused.{is_not_before, late_at, rule_fault, AreKept, OpeningLaw, PlainLaw}
 use Rattle.situations.proofs.Apart.{opened_apart}
-use Rattle.situations.proofs.Callsigns.{bytes_eq-true, bytes_eq-refl}
 
 -- ---- what it means that no fault is found
 
@@ -49,8 +49,7 @@ unless_none false f e = absurd (cc)
 first_none : {X : Type 0} (fault_at : ℕ → X → Option OpeningFault) (p : ℕ) (xs : List X)
     → first_from fault_at p xs ≡ None → (x : X) → Member x xs → (q : ℕ) × (fault_at q x ≡ None)
 first_none fault_at p [] e x m = absurd m
-first_none fault_at p (y ∷ ys) e x (inl s) =
-    (p, ap (fault_at p) s ∙ (or_none (fault_at p y) (first_from fault_at (p + 1) ys) e).0)
+first_none fault_at p (y ∷ ys) e x (inl s) = search rules
 first_none fault_at p (y ∷ ys) e x (inr m) =
     first_none fault_at (p + 1) ys (or_none (fault_at p y) (first_from fault_at (p + 1) ys) e).1 x m
 
@@ -58,20 +57,17 @@ clash_none : (table : List (List ℕ)) (p : ℕ) (xs : List Landing) → clash_f
     → (g h : Landing) → Member g xs → Member h xs → g.flight.callsign ≢ h.flight.callsign
     → is_pair_separated table g h ≡ true
 clash_none table p [] e g h m k n = absurd m
-clash_none table p (x ∷ xs) e g h (inl s) (inl t) n =
-    absurd (n (ap (λ (z : Landing). z.flight.callsign) s ∙ sym (ap (λ (z : Landing). z.flight.callsign) t)))
-clash_none table p (x ∷ xs) e g h (inl s) (inr k) n =
-    let firsts = first_none (clash_at table p x) (p + 1) xs
-    (or_none (first_from (clash_at table p x) (p + 1) xs) (clash_from table (p + 1) xs) e).0 h k in
-    let both = and_parts (is_pair_separated table x h) (is_pair_separated table h x)
-    (unless_none (are_apart table x h) (fault.FrozenSeparation p firsts.0) firsts.1) in
-    ap (λ z. is_pair_separated table z h) s ∙ both.0
-clash_none table p (x ∷ xs) e g h (inr m) (inl t) n =
-    let firsts = first_none (clash_at table p x) (p + 1) xs
-    (or_none (first_from (clash_at table p x) (p + 1) xs) (clash_from table (p + 1) xs) e).0 g m in
-    let both = and_parts (is_pair_separated table x g) (is_pair_separated table g x)
-    (unless_none (are_apart table x g) (fault.FrozenSeparation p firsts.0) firsts.1) in
-    ap (λ z. is_pair_separated table g z) t ∙ both.1
+clash_none table p (x ∷ xs) e g h (inl s) (inl t) n = search rules
+clash_none table p (x ∷ xs) e g h (inl s) (inr k) n = grind (
+  arith,
+  first_none (clash_at table p x) (p + 1) xs
+      (or_none (first_from (clash_at table p x) (p + 1) xs) (clash_from table (p + 1) xs) e).0 h k,
+)
+clash_none table p (x ∷ xs) e g h (inr m) (inl t) n = grind (
+  arith,
+  first_none (clash_at table p x) (p + 1) xs
+      (or_none (first_from (clash_at table p x) (p + 1) xs) (clash_from table (p + 1) xs) e).0 g m,
+)
 clash_none table p (x ∷ xs) e g h (inr m) (inr k) n =
     clash_none table (p + 1) xs (or_none (first_from (clash_at table p x) (p + 1) xs) (clash_from table (p + 1) xs) e).1
     g h m k n
@@ -81,13 +77,8 @@ map_none f None e = refl
 map_none f (Some x) e = absurd (cc)
 
 any_member : {X : Type 0} (p : X → Bool) (xs : List X) → list_any p xs ≡ true → (x : X) × Member x xs × (p x ≡ true)
-any_member p [] e = absurd (false≢true e)
-any_member {X = X} p (x ∷ xs) e = go (p x) refl e (any_member p xs)
-  where
-    go : (b : Bool) → p x ≡ b → (b || list_any p xs) ≡ true
-        → (list_any p xs ≡ true → (z : X) × Member z xs × (p z ≡ true)) → (z : X) × Member z (x ∷ xs) × (p z ≡ true)
-    go true k e ih = (x, inl refl, k)
-    go false k e ih = let r = ih e in (r.0, inr r.1, r.2)
+any_member p [] e = cc
+any_member {X = X} p (x ∷ xs) e = grind (arith, common_steps, any_member p xs)
 
 -- ---- entries, and the flights that they name
 
@@ -99,8 +90,8 @@ look_from {X = X} seen c (x ∷ xs) t e = go (bytes_eq (seen x).0 c) refl e (loo
     go : (b : Bool) → bytes_eq (seen x).0 c ≡ b → cond b (Some (seen x).1) (look_up c (map seen xs)) ≡ Some t →
         (look_up c (map seen xs) ≡ Some t → (z : X) × Member z xs × ((seen z).0 ≡ c) × ((seen z).1 ≡ t))
         → (z : X) × Member z (x ∷ xs) × ((seen z).0 ≡ c) × ((seen z).1 ≡ t)
-    go true k e ih = (x, inl refl, bytes_eq-true (seen x).0 c k, cc)
-    go false k e ih = let r = ih e in (r.0, inr r.1, r.2, r.3)
+    go true k e ih = search rules
+    go false k e ih = search rules
 
 abbrev Differ : Active → Active → Type 0
 Differ x y = x.flight.callsign ≢ y.flight.callsign
@@ -108,23 +99,15 @@ Differ x y = x.flight.callsign ≢ y.flight.callsign
 find_own : (x : Active) (xs : List Active) → AllPairs Differ xs → Member x xs
     → find (named x.flight.callsign) xs ≡ Some x
 find_own x [] apart m = absurd m
-find_own x (y ∷ ys) apart (inl s) =
-    let same : bytes_eq y.flight.callsign x.flight.callsign ≡ true =
-    ap (λ (z : Active). bytes_eq y.flight.callsign z.flight.callsign) s ∙ bytes_eq-refl y.flight.callsign in
-    ap (λ b. cond b (Some y) (find (named x.flight.callsign) ys)) same ∙ ap (λ z. Some z) (sym s)
+find_own x (y ∷ ys) apart (inl s) = search rules
 find_own x (y ∷ ys) apart (inr m) =
     let n : y.flight.callsign ≢ x.flight.callsign =
     all_at (Differ y) ys (λ k d lt. apart zero (suc k) d (omega arith) (omega arith)) x m in
-    let other : bytes_eq y.flight.callsign x.flight.callsign ≡ false = differ y.flight.callsign x.flight.callsign n in
-    ap (λ b. cond b (Some y) (find (named x.flight.callsign) ys)) other
+    ap (λ b. cond b (Some y) (find (named x.flight.callsign) ys)) (differ y.flight.callsign x.flight.callsign n)
     ∙ find_own x ys (λ i j d l k. apart (suc i) (suc j) d (omega arith) (omega arith)) m
   where
     differ : (c d : List ℕ) → c ≢ d → bytes_eq c d ≡ false
-    differ c d n = go (bytes_eq c d) refl
-      where
-        go : (b : Bool) → bytes_eq c d ≡ b → b ≡ false
-        go true e = absurd (n (bytes_eq-true c d e))
-        go false e = refl
+    differ c d n = search rules
 
 module _ (a : Aerodrome) (fs : List files.Flight) (kept : AreKept a fs) (can : CanOpen a fs)
     (none : opening_fault a fs ≡ None) where
@@ -140,37 +123,30 @@ module _ (a : Aerodrome) (fs : List files.Flight) (kept : AreKept a fs) (can : C
   -- ---- what was tested
 
   by_name : name_fault a s.active ≡ None
-  by_name = (or_none (name_fault a s.active) (rule_fault a s.active all) none).0
+  by_name = search rules
 
   by_rule : rule_fault a s.active all ≡ None
-  by_rule = (or_none (name_fault a s.active) (rule_fault a s.active all) none).1
+  by_rule = search rules
 
   few_wait : length (waiting s) ≤ most_waiting
-  few_wait =
-      let unknown = (or_none (first_from (unknown_frozen_at s.active) 1 a.frozen)
-      (option_or (first_from (unknown_passed_at s.active) 1 a.passed) (too_many_waiting s.active)) by_name).1 in
-      let wait = (or_none (first_from (unknown_passed_at s.active) 1 a.passed) (too_many_waiting s.active) unknown).1 in
-      leb-true (length (waiting s)) most_waiting (unless_none (leb (length (waiting s)) most_waiting)
-      (fault.TooManyWaiting (length (waiting s))) wait)
+  few_wait = search rules
 
   no_closed : first_from (closed_at a.closures) 1 all ≡ None
-  no_closed = (or_none (first_from (closed_at a.closures) 1 all)
-      (option_or (clash_from a.table 1 all) (first_from (late_at s.active) 1 all)) by_rule).0
+  no_closed = search rules
 
   rest : option_or (clash_from a.table 1 all) (first_from (late_at s.active) 1 all) ≡ None
-  rest = (or_none (first_from (closed_at a.closures) 1 all)
-      (option_or (clash_from a.table 1 all) (first_from (late_at s.active) 1 all)) by_rule).1
+  rest = search rules
 
   no_clash : clash_from a.table 1 all ≡ None
-  no_clash = (or_none (clash_from a.table 1 all) (first_from (late_at s.active) 1 all) rest).0
+  no_clash = search rules
 
   no_late : first_from (late_at s.active) 1 all ≡ None
-  no_late = (or_none (clash_from a.table 1 all) (first_from (late_at s.active) 1 all) rest).1
+  no_late = search rules
 
   -- ---- the flights in the system
 
   length_active : length s.active ≡ length fs
-  length_active = length-map (map flight_of fs) made ∙ length-map fs flight_of
+  length_active = grind (arith, common_steps)
 
   each_active : (P : Active → Type 0) → ((f : files.Flight) → Member f fs → P (made (flight_of f))) → All P s.active
   each_active P h = all_from P s.active (λ x m.
@@ -194,8 +170,6 @@ module _ (a : Aerodrome) (fs : List files.Flight) (kept : AreKept a fs) (can : C
       let p = look_from (λ (p : PassedCount). (p.callsign, p.count)) f.callsign a.passed n e in
       let h = all_at (λ (p : PassedCount). (1 ≤ p.count)
       × (p.count ≤ a.k)) a.passed can.aerodrome.passed.counts p.0 p.1 in
-      let k : p.0.count ≤ a.k = h.1 in
-      let same : p.0.count ≡ n = p.3 in
       omega arith
 
   counted : All (λ (x : Active). x.passed ≤ a.k) s.active
@@ -221,10 +195,7 @@ module _ (a : Aerodrome) (fs : List files.Flight) (kept : AreKept a fs) (can : C
 
   frozen_of : (f : Landing) → Member f (frozen_landings s) → (x : Active) × Member x s.active
       × (x.frozen ≡ Some f.second) × (f ≡ landing x f.second)
-  frozen_of f m =
-      let r = in_frozen s.active f m in
-      let at : r.1 ≡ f.second = sym (ap (λ (g : Landing). g.second) r.4) in
-      (r.0, r.2, r.3 ∙ ap (λ z. Some z) at, r.4 ∙ ap (landing r.0) at)
+  frozen_of f m = search (rules, in_frozen)
 
   of_file : (f : Landing) → Member f (frozen_landings s) → IsOfFile f
   of_file f m =
@@ -232,25 +203,14 @@ module _ (a : Aerodrome) (fs : List files.Flight) (kept : AreKept a fs) (can : C
       let y = in_map made (map flight_of fs) x.0 x.1 in
       let g = in_map flight_of fs y.0 y.1 in
       let own : x.0 ≡ made (flight_of g.0) = y.2 ∙ ap made g.2 in
-      let looked : look_up g.0.callsign (map (λ (e : FrozenLanding). (e.callsign, e.second)) a.frozen) ≡ Some f.second =
-      sym (ap (λ (z : Active). z.frozen) own) ∙ x.2 in
-      let e = look_from (λ (e : FrozenLanding). (e.callsign, e.second)) g.0.callsign a.frozen f.second looked in
-      let named_own : e.0.callsign ≡ x.0.flight.callsign = e.2 ∙ sym (ap (λ (z : Active). z.flight.callsign) own) in
+      let e = look_from (λ (e : FrozenLanding). (e.callsign, e.second)) g.0.callsign a.frozen f.second
+      (sym (ap (λ (z : Active). z.frozen) own) ∙ x.2) in
       let given_own : given_landing s.active e.0 ≡ Some f =
-      ap (λ c. option_map (λ (z : Active). landing z e.0.second) (find (named c) s.active)) named_own
+      ap (λ c. option_map (λ (z : Active). landing z e.0.second) (find (named c) s.active))
+      (e.2 ∙ sym (ap (λ (z : Active). z.flight.callsign) own))
       ∙ ap (option_map (λ (z : Active). landing z e.0.second)) (find_own x.0 s.active apart x.1)
       ∙ ap (λ t. Some (landing x.0 t)) e.3
-      ∙ ap (λ z. Some z) (sym x.3) in
-      record {
-        flight = x.0;
-        active = x.1;
-        frozen = x.2;
-        is = x.3;
-        entry = e.0;
-        in_file = e.1;
-        second = e.3;
-        in_all = filter_map_in (given_landing s.active) a.frozen e.0 f e.1 given_own;
-      }
+      ∙ ap (λ z. Some z) (sym x.3) in search (rules, filter_map_in)
 
   -- ---- and keep the rules
 
@@ -269,15 +229,7 @@ module _ (a : Aerodrome) (fs : List files.Flight) (kept : AreKept a fs) (can : C
   -- one that a frozen flight lists is frozen at an earlier second
   earlier : (g : Landing) → Member g (frozen_landings s) → (x : Active) → Member x s.active
       → lists g.flight x.flight.callsign ≡ true → is_not_before g.second x.frozen ≡ false
-  earlier g m x k e =
-      let h = first_none (late_at s.active) 1 all no_late g (of_file g m).in_all in
-      let no = map_none (fault.FrozenPrecedence h.0) (find (lands_late s.active g.second) g.flight.after) h.1 in
-      let d = any_member (λ d. bytes_eq d x.flight.callsign) g.flight.after e in
-      let is : d.0 ≡ x.flight.callsign = bytes_eq-true d.0 x.flight.callsign d.2 in
-      let early = none_found (lands_late s.active g.second) g.flight.after d.0 no d.1 in
-      let test = none_any (λ (z : Active). named d.0 z && is_not_before g.second z.frozen) s.active x early k in
-      let same : named d.0 x ≡ true = ap (bytes_eq x.flight.callsign) is ∙ bytes_eq-refl x.flight.callsign in
-      sym (ap (λ b. b && is_not_before g.second x.frozen) same) ∙ test
+  earlier g m x k e = search (rules, first_none, of_file, any_member, none_found, none_any)
 
   in_precedence : AreInPrecedence (frozen_landings s)
   in_precedence = all_from (λ f. All (IsPairInPrecedence f) (frozen_landings s)) (frozen_landings s) (λ f m.
@@ -298,7 +250,7 @@ module _ (a : Aerodrome) (fs : List files.Flight) (kept : AreKept a fs) (can : C
     where
       waits_on : (t : ℕ) (o : Option ℕ) → is_none o ≡ true → is_not_before t o ≡ true
       waits_on t None e = refl
-      waits_on t (Some z) e = absurd (false≢true e)
+      waits_on t (Some z) e = cc
 
       go : (f : Landing) → Member f (frozen_landings s) → (x : Active) → Member x s.active
           → is_waiting x ≡ true → (b : Bool) → lists f.flight x.flight.callsign ≡ b → b ≡ false
@@ -312,7 +264,7 @@ module _ (a : Aerodrome) (fs : List files.Flight) (kept : AreKept a fs) (can : C
     where
       go : (clock : Option ℕ) (frozen : List FrozenLanding) → AreFrozenBy clock a.freeze frozen
           → (e : FrozenLanding) → Member e frozen → e.second < horizon_after clock a.freeze
-      go None frozen h e m = absurd (subst (Member e) h m)
+      go None frozen h e m = search rules
       go (Some now) frozen h e m = (all_at (IsFrozen now a.freeze) frozen h.seconds e m).early
 
   pub sound : IsSound s
@@ -342,11 +294,6 @@ plain_opening a fs no_frozen no_passed few =
     let active = (opened a fs).active in
     let n : length active ≡ length fs = length-map (map flight_of fs) (opening_flight (opening_of a))
     ∙ length-map fs flight_of in
-    let wait : length (filter is_waiting active) ≤ most_waiting = omega (arith, fewer_kept is_waiting active) in
     let enough : too_many_waiting active ≡ None =
     ap (λ b. unless b (fault.TooManyWaiting (length (filter is_waiting active))))
-    (le-leb (length (filter is_waiting active)) most_waiting wait) in
-    let names : name_fault a active ≡ None =
-    ap₂ (λ f p. option_or (first_from (unknown_frozen_at active) 1 f)
-    (option_or (first_from (unknown_passed_at active) 1 p) (too_many_waiting active))) no_frozen no_passed ∙ enough in
-    ap₂ option_or names (ap (λ f. rule_fault a active (given active f)) no_frozen)
+    (le-leb (length (filter is_waiting active)) most_waiting (omega (arith, fewer_kept is_waiting active))) in cc

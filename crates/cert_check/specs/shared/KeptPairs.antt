@@ -1,8 +1,9 @@
 -- What keeps the pairs of each node, as the entries of windows do, makes the states that leave nothing out.
-use Rattle.std.proofs.Common.{◌≡◌, ◌<◌, ◌≤◌, inl, inr, true, ltb, ◌&&◌, List, [], ◌∷◌, length, get_or, refl, sym}
-use Rattle.std.proofs.Common.{subst, arith}
+use Rattle.std.proofs.Common.{rules}
+use Rattle.std.proofs.Common.{◌≡◌, ◌≤◌, inl, true, List, [], ◌∷◌, length, get_or, refl}
+use Rattle.std.proofs.Common.{arith}
 use Rattle.std.specs.Prelude.{All}
-use Rattle.std.proofs.lemmas.Bool.{and_from, and_parts, lt-ltb, ltb-true}
+use Rattle.std.proofs.lemmas.Bool.{and_parts, ltb-true}
 use Rattle.landing_rules.specs.Problem.{Problem}
 use Rattle.cps_theory.specs.Labels.{InPairs, NoWorse, Pair}
 use Rattle.cps_theory.specs.Network.{Kept}
@@ -18,28 +19,19 @@ use Rattle.cert_check.specs.Whole.{Attains, HasNode, IsWholeState, AreWholeState
 -- seconds that rise and costs that fall are a staircase
 pub rising_staircase : (ps : List Pair) → rises ps ≡ true → Staircase ps
 rising_staircase [] h = tt
-rising_staircase (a ∷ []) h = (λ b i. absurd i, tt)
+rising_staircase (a ∷ []) h = omega arith
 rising_staircase (a ∷ b ∷ ps) h =
     let t = and_parts _ _ h in
     let s = and_parts _ _ t.0 in
     let x = ltb-true a.0 b.0 s.0 in
     let y = ltb-true b.1 a.1 s.1 in
-    let rest = rising_staircase (b ∷ ps) t.1 in (
-      λ c i. elim i [
-        | inl e ↦ subst (λ (z : Pair). (a.0 < z.0) × (z.1 < a.1)) (sym e) (x, y)
-        | inr j ↦
-            (let m = rest.0 c j in let u = m.0 in let v = m.1 in (omega arith, omega arith))
-      ],
-      rest,
-    )
+    let rest = rising_staircase (b ∷ ps) t.1 in search rules
 
 pub staircase_rises : (ps : List Pair) → Staircase ps → rises ps ≡ true
 staircase_rises [] h = refl
 staircase_rises (a ∷ []) h = refl
 staircase_rises (a ∷ b ∷ ps) h =
-    let m = h.0 b (inl refl) in
-    and_from (ltb a.0 b.0 && ltb b.1 a.1) (rises (b ∷ ps))
-    (and_from (ltb a.0 b.0) (ltb b.1 a.1) (lt-ltb a.0 b.0 m.0) (lt-ltb b.1 a.1 m.1)) (staircase_rises (b ∷ ps) h.1)
+    let m = h.0 b (inl refl) in grind (arith, staircase_rises (b ∷ ps) h.1)
 
 first_pair : (ps : List Pair) → 1 ≤ length ps → (q : Pair) × InPairs q ps
 first_pair [] h = absurd (omega arith)

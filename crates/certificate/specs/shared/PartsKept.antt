@@ -1,7 +1,7 @@
 -- The landings of a certificate with one more, how long a pattern is, and how great its number.
+use Rattle.std.proofs.Common.{rules}
 use Rattle.std.proofs.Common.{◌≡◌, ℕ, zero, suc, ◌*◌, ◌<◌, ◌≤◌, ◌^◌, Bool, true, false, List, [], ◌∷◌, ◌++◌, length}
 use Rattle.std.proofs.Common.{refl, arith}
-use Rattle.std.proofs.Math.Nat.{pow-succ'}
 use Rattle.cps_base.specs.Text.{is_callsign}
 use Rattle.certificate.specs.Patterns.{is_pattern_length, number_of}
 use Rattle.certificate.specs.Reading.{AreLandings}
@@ -22,5 +22,5 @@ even_length (suc (suc (suc (suc k)))) h = absurd (omega arith)
 
 pub number_below : (ds : List Bool) → number_of ds < 2 ^ length ds
 number_below [] = omega arith
-number_below (true ∷ ds) = let a = number_below ds in let e = pow-succ' 2 (length ds) in omega (arith, a, e)
-number_below (false ∷ ds) = let a = number_below ds in let e = pow-succ' 2 (length ds) in omega (arith, a, e)
+number_below (true ∷ ds) = search (rules, number_below ds)
+number_below (false ∷ ds) = search (rules, number_below ds)

@@ -1,5 +1,4 @@
 use Rattle.std.proofs.Common.{◌≡◌, ◌+◌, ◌<◌, ℕ, length, List, [], ◌∷◌, refl, ap, rules, tests, arith, ◌∙◌}
-use Rattle.std.specs.Option.{option_or}
 use Rattle.std.specs.List.{enumerate_from}
 use Rattle.std.proofs.lemmas.Iterator.{YieldsList-from_slice}
 use Rattle.std.proofs.lemmas.Iterator.Adapters.{serves_from_places}
@@ -19,8 +18,7 @@ states_answer : (p : Problem) (all : List State) (n : ℕ) (ss : List State)
     (enumerate_from n ss) ≡ missed_from p all (n + 1) ss
 unfolding first_answer closure.missed_from
 states_answer p all n [] = refl
-states_answer p all n (s ∷ ss) =
-    ap (option_or (with_number (n + 1) (first_missed p all (node_of s) s.pairs))) (states_answer p all (n + 1) ss)
+states_answer p all n (s ∷ ss) = cc (states_answer p all (n + 1) ss)
 
 pub find_map-requires-clause-callable : goal.find_map-requires-clause-callable
 find_map-requires-clause-callable c =

@@ -1,4 +1,5 @@
 -- By what an accepted certificate means.
+use Rattle.std.proofs.Common.{rules}
 use Rattle.std.proofs.Common.{sym, ◌∙◌}
 use Rattle.cert_check.proofs.Accepted.{judged_optimal, judged_infeasible}
 use Rattle.cert_check.proofs.judging.judge.Goals as goal
@@ -9,6 +10,4 @@ returns-clause-optimal c =
     (sym c.decide.ensures ∙ e)
 
 pub returns-clause-infeasible : goal.returns-clause-infeasible
-returns-clause-infeasible c =
-    λ e. judged_infeasible c.args.problem.now c.args.certificate.now c.head-head.ensures.well_formed
-    (sym c.decide.ensures ∙ e)
+returns-clause-infeasible c = search (rules, judged_infeasible)

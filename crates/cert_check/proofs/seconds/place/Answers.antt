@@ -17,12 +17,13 @@ returns-clause-value c =
     let p = c.args.problem.now in
     let ls = c.args.landings.now in
     let test = λ (q : ℕ). nat_lt (second p ls q) (second p ls c.args.rank) in
-    let ranks = YieldsList-from_range 1 _ (count p) c.filter.ensures.source (omega (arith, c.len.ensures.value)) in
-    let filtered = count_from_yields_List c.filter.result _ c.count-earlier.ensures.ran
-    (YieldsList-from_filter _ test ranks c.filter.ensures.closure (λ x b q k. search (rules, tests))) in
-    let all = ranks_folded (λ n q. n + cond (test q) 1 0) (λ n. count_by test (upto n))
-    (λ n. omega (arith, sum_by-cons (λ (q : ℕ). cond (test q) 1 0) (suc n) (upto n))) (count p) in
     let counted : c.count-earlier.result ≡ count_by test (upto (count p)) =
-    filtered ∙ length-filter test (range_with_len 1 (count p)) ∙ all in
+    (count_from_yields_List c.filter.result _ c.count-earlier.ensures.ran
+    (YieldsList-from_filter _ test
+    (YieldsList-from_range 1 _ (count p) c.filter.ensures.source (omega (arith, c.len.ensures.value)))
+    c.filter.ensures.closure (λ x b q k. search (rules, tests)))) ∙ length-filter test
+    (range_with_len 1 (count p)) ∙
+    (ranks_folded (λ n q. n + cond (test q) 1 0) (λ n. count_by test (upto n))
+    (λ n. omega (arith, sum_by-cons (λ (q : ℕ). cond (test q) 1 0) (suc n) (upto n))) (count p)) in
     let is = place_is p (seconds p ls) (length-map p.flights (λ f. second_of ls f.callsign)) c.args.rank in
     omega arith

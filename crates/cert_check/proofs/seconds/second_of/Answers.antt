@@ -16,9 +16,9 @@ looked_up name (l ∷ ls) good = let rest = looked_up name ls good.2 in grind ar
 
 pub returns : goal.returns
 returns c =
-    let found = find_from_yields_List (λ (l : List ℕ × ℕ). bytes_eq l.0 c.args.name) _ _ c.find.result
-    c.find.ensures.ran (YieldsList-from_slice c.args.landings.now (cc)) (λ x b q k. search (rules, tests)) in
     let is = looked_up c.args.name c.args.landings.now c.requires in
     let same : c.map_or.result ≡ second_of c.args.landings.now c.args.name =
-    search (rules) ∙ ap (λ o. unwrap_or (option_map (λ (l : List ℕ × ℕ). l.1) o) 0) found ∙ is.0 in
+    search (rules) ∙ ap (λ o. unwrap_or (option_map (λ (l : List ℕ × ℕ). l.1) o) 0)
+    (find_from_yields_List (λ (l : List ℕ × ℕ). bytes_eq l.0 c.args.name) _ _ c.find.result
+    c.find.ensures.ran (YieldsList-from_slice c.args.landings.now (cc)) (λ x b q k. search (rules, tests))) ∙ is.0 in
     record { value = same; small = omega (arith, is.1) }

@@ -25,9 +25,10 @@ pub sum-requires-clause-fits : goal.sum-requires-clause-fits
 sum-requires-clause-fits c =
     let n = count c.args.problem.now in
     let cost = λ (r : ℕ). cost_at c.args.problem.now r (second c.args.problem.now c.args.landings.now r) in
-    let ranks = YieldsList-from_range 1 _ n c.map.ensures.source (omega (arith, c.len.ensures.value)) in
     fits_by_from_yields_list (small cost) _ c.map.result _
-    (YieldsList-from_map _ (small cost) ranks c.map.ensures.closure (λ x r q k. search (rules, tests)))
+    (YieldsList-from_map _ (small cost)
+    (YieldsList-from_range 1 _ n c.map.ensures.source (omega (arith, c.len.ensures.value))) c.map.ensures.closure
+    (λ x r q k. search (rules, tests)))
     (omega (arith, small_sum cost n 1, c.len.ensures.value, c.len.type_inv))
 
 pub returns : goal.returns
@@ -35,12 +36,15 @@ returns c =
     let n = count c.args.problem.now in
     let cost = λ (r : ℕ). cost_at c.args.problem.now r (second c.args.problem.now c.args.landings.now r) in
     let ranks = YieldsList-from_range 1 _ n c.map.ensures.source (omega (arith, c.len.ensures.value)) in
-    let whole = sum_by_from_yields_List cost _ c.map.result _ c.sum.ensures.ran
-    (YieldsList-from_map _ cost ranks c.map.ensures.closure (λ x r q k. search (rules, tests))) in
-    let low = sum_by_from_yields_List (small cost) _ c.map.result _ c.sum.ensures.ran
-    (YieldsList-from_map _ (small cost) ranks c.map.ensures.closure (λ x r q k. search (rules, tests))) in
     record {
-      value = whole ∙ ranks_folded (λ a r. a + cost r) (λ n. total cost (upto n)) (λ n. omega arith) n;
+      value = (sum_by_from_yields_List cost _ c.map.result _ c.sum.ensures.ran
+          (YieldsList-from_map _ cost ranks c.map.ensures.closure (λ x r q k. search (rules, tests)))) ∙ ranks_folded
+          (λ a r. a + cost r) (λ n. total cost (upto n)) (λ n. omega arith) n;
       small =
-          omega (arith, low, small_sum cost n 1);
+          omega (
+            arith,
+            (sum_by_from_yields_List (small cost) _ c.map.result _ c.sum.ensures.ran
+                (YieldsList-from_map _ (small cost) ranks c.map.ensures.closure (λ x r q k. search (rules, tests)))),
+            small_sum cost n 1,
+          );
     }

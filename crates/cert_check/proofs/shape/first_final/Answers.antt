@@ -8,7 +8,7 @@ use Rattle.cert_check.proofs.shape.first_final.Goals as goal
 pub returns : goal.returns
 returns c =
     let test = is_final c.args.problem.now in
-    let at = position_from_yields_List test _ _ _ c.position.ensures.ran (YieldsList-from_slice c.args.states.now (cc))
-    (λ x b q k. search (rules, tests)) in
-    number_found test c.args.states.now c.position.result c.map.result at (search rules) c.map.ensures.cases
+    number_found test c.args.states.now c.position.result c.map.result
+    (position_from_yields_List test _ _ _ c.position.ensures.ran (YieldsList-from_slice c.args.states.now (cc))
+    (λ x b q k. search (rules, tests))) (search rules) c.map.ensures.cases
     (λ i n lt q. search rules)

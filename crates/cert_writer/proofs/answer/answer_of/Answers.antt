@@ -1,6 +1,5 @@
 use Rattle.std.proofs.Common.{◌≤◌, ℕ, rules, sym, subst}
 use Rattle.cps_base.specs.Limits.{greatest_value}
-use Rattle.landing_rules.specs.Problem.{IsBestList}
 use Rattle.cert_check.specs.Landings.{Landings}
 use Rattle.cert_check.specs.Meaning.{IsShownOptimal}
 use Rattle.cert_check.specs.WholeLaws.{landings_in}
@@ -11,11 +10,10 @@ pub returns-in_ok-landings-in-Some-clause-answered : goal.returns-in_ok-landings
 returns-in_ok-landings-in-Some-clause-answered c =
     let p = c.args.problem.now in
     let t = c.in-Some.schedule.now in
-    let best : IsBestList p t = search rules in
     let a = c.in_ok-landings-in-Some.ensures.listed in
     subst (λ (ls : Landings). IsShownOptimal p ls c.value_of-value.result) (sym a.listed)
     (subst (λ (v : ℕ). IsShownOptimal p (landings_in p t a.order) v) (sym c.value_of-value.ensures)
-    (c.best_lists_are_shown.ensures p t a.order c.head-well_formed.ensures.well_formed best
+    (c.best_lists_are_shown.ensures p t a.order c.head-well_formed.ensures.well_formed (search rules)
     a.whole.whole a.whole.ranks a.whole.distinct))
 
 pub returns-in_ok-landings-in-Some-clause-claim : goal.returns-in_ok-landings-in-Some-clause-claim

@@ -25,23 +25,27 @@ loop-i-preserved c =
     let slots = c.in_ok-slots.slots.items in
     let hs = c.in_ok-slots.ensures in
     let pairs = c.loop-i.pairs.items in
-    let told = ap (λ (xs : List ℕ). length xs) c.places-places.ensures in
-    let long = c.requires.windows.together.long in
-    let lt : i < length s.1 = omega (arith, c.loop-i-test.true, told, long) in
+    let lt : i < length s.1 = omega (
+      arith,
+      c.loop-i-test.true,
+      (ap (λ (xs : List ℕ). length xs) c.places-places.ensures),
+      c.requires.windows.together.long,
+    ) in
     let place = told_at n.places i in
     let same : told_at c.places-places.result.now i ≡ place =
     ap (λ (xs : List ℕ). told_at xs i) c.places-places.ensures in
-    let within = c.requires.windows.together.within i lt in
-    let each = hs.long in
     let slot : c.index-slot.result.now ≡ told_at slots place = c.index-slot.ensures
     ∙ get_or_default slots (told_at c.places-places.result.now i) c.index-slot.result.now 0
-    (omega (arith, same, within, each)) ∙ ap (told_at slots) same in
-    let inside = (window_slot p c.requires.laws.placed held stage number costs n c.requires.windows
-    slots hs i lt).has.within in
-    let room = c.loop-i.invariant.room in
+    (omega (arith, same, (c.requires.windows.together.within i lt), hs.long)) ∙ ap (told_at slots) same in
     let old : c.index_mut.result.now ≡ list_at pairs (told_at slots place) =
     c.index_mut.ensures.value ∙ get_or_default pairs c.index-slot.result.now c.index_mut.result.now []
-    (omega (arith, slot, inside, room)) ∙ ap (list_at pairs) slot in
+    (omega (
+      arith,
+      slot,
+      ((window_slot p c.requires.laws.placed held stage number costs n c.requires.windows
+          slots hs i lt).has.within),
+      c.loop-i.invariant.room,
+    )) ∙ ap (list_at pairs) slot in
     let new = c.join.new.self in
     let more = window_joined p c.requires.laws.placed held stage number costs n c.requires.windows
     slots hs i lt pairs c.loop-i.invariant new
@@ -54,9 +58,13 @@ loop-i-preserved c =
 
 pub returns : goal.returns
 returns c =
-    let s = stage_in (held_of c.args.kept.now) c.args.stage in
-    let told = ap (λ (xs : List ℕ). length xs) c.places-places.ensures in
-    let long = c.requires.windows.together.long in
-    let end : c.loop-i.i ≡ length s.1 = omega (arith, c.loop-i-test.false, c.loop-i.auto.i-end, told, long) in
-    subst (λ (m : ℕ). AreGathered c.args.problem.now s
-    (lists_in (held_of c.args.kept.now) c.args.stage) m c.loop-i.pairs.items) end c.loop-i.invariant
+    subst (λ (m : ℕ). AreGathered c.args.problem.now (stage_in (held_of c.args.kept.now) c.args.stage)
+    (lists_in (held_of c.args.kept.now) c.args.stage) m c.loop-i.pairs.items)
+    (omega (
+      arith,
+      c.loop-i-test.false,
+      c.loop-i.auto.i-end,
+      (ap (λ (xs : List ℕ). length xs) c.places-places.ensures),
+      c.requires.windows.together.long,
+    ))
+    c.loop-i.invariant

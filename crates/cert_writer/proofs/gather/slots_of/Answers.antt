@@ -1,4 +1,4 @@
-use Rattle.std.proofs.Common.{◌≡◌, ℕ, ◌+◌, ◌<◌, List, length, arith, ap, subst, sym, ◌∙◌}
+use Rattle.std.proofs.Common.{◌≡◌, ℕ, ◌+◌, List, length, arith, ap, subst, sym, ◌∙◌}
 use Rattle.cps_network.specs.Lists.{node_at}
 use Rattle.cps_network.specs.Nodes.{latest}
 use Rattle.cps_network.specs.WindowRanks.{TellsPlaced}
@@ -13,28 +13,28 @@ use Rattle.cert_writer.proofs.gather.slots_of.Goals as goal
 
 pub node-requires-clause-place : goal.node-requires-clause-place
 node-requires-clause-place c =
-    let n = c.args.windows.now in
-    let long = ap (λ (xs : List ℕ). length xs) c.firsts-firsts.ensures in
-    let same : told_at c.firsts-firsts.result.now c.loop-j.j ≡ told_at n.firsts c.loop-j.j =
-    ap (λ (xs : List ℕ). told_at xs c.loop-j.j) c.firsts-firsts.ensures in
-    let lt = c.requires.windows.together.first c.loop-j.j (omega (arith, c.loop-j-test.true, long)) in
-    omega (arith, same, lt)
+    omega (
+      arith,
+      (ap (λ (xs : List ℕ). told_at xs c.loop-j.j) c.firsts-firsts.ensures),
+      (c.requires.windows.together.first c.loop-j.j
+          (omega (arith, c.loop-j-test.true, (ap (λ (xs : List ℕ). length xs) c.firsts-firsts.ensures)))),
+    )
 
 pub slot_of-slot-requires-clause-last : goal.slot_of-slot-requires-clause-last
 slot_of-slot-requires-clause-last c =
     let p = c.args.problem.now in
     let stage = c.args.stage in
-    let n = c.args.windows.now in
-    let s = stage_in (held_of c.args.kept.now) stage in
     let are = c.stages-held.ensures.held p c.requires.held in
-    let long = ap (λ (xs : List ℕ). length xs) c.firsts-firsts.ensures in
-    let same : told_at c.firsts-firsts.result.now c.loop-j.j ≡ told_at n.firsts c.loop-j.j =
-    ap (λ (xs : List ℕ). told_at xs c.loop-j.j) c.firsts-firsts.ensures in
-    let first = c.requires.windows.together.first c.loop-j.j (omega (arith, c.loop-j-test.true, long)) in
-    let lt : told_at c.firsts-firsts.result.now c.loop-j.j < length s.1 = omega (arith, same, first) in
-    node_near p c.requires.laws.placed s (lists_in (held_of c.args.kept.now) stage)
+    node_near p c.requires.laws.placed (stage_in (held_of c.args.kept.now) stage)
+    (lists_in (held_of c.args.kept.now) stage)
     (are.pairs stage c.requires.stage.1) stage (are.number stage c.requires.stage.1) c.requires.stage.0
-    (told_at c.firsts-firsts.result.now c.loop-j.j) c.most_shift-k.result c.node.result.placed c.node.result.last lt
+    (told_at c.firsts-firsts.result.now c.loop-j.j) c.most_shift-k.result c.node.result.placed c.node.result.last
+    (omega (
+      arith,
+      (ap (λ (xs : List ℕ). told_at xs c.loop-j.j) c.firsts-firsts.ensures),
+      (c.requires.windows.together.first c.loop-j.j
+          (omega (arith, c.loop-j-test.true, (ap (λ (xs : List ℕ). length xs) c.firsts-firsts.ensures)))),
+    ))
     c.most_shift-k.ensures.k c.node.ensures.placed c.node.ensures.last
 
 pub loop-j-preserved : goal.loop-j-preserved
@@ -48,21 +48,23 @@ loop-j-preserved c =
     let slot = c.slot_of-slot.result in
     let same : told_at c.firsts-firsts.result.now j ≡ told_at n.firsts j =
     ap (λ (xs : List ℕ). told_at xs j) c.firsts-firsts.ensures in
-    let last : node.last ≡ latest (stage, node_at list (told_at n.firsts j)) =
-    c.node.ensures.last ∙ ap (λ (i : ℕ). latest (stage, node_at list i)) same in
-    let here = subst (λ (k : ℕ). HasSlot k (stage, digits_of k stage node.placed, node.last) slot)
-    c.most_shift-k.ensures.k c.slot_of-slot.ensures in
-    let more = one_slot_more p.k stage list n.firsts j c.loop-j.slots.items slot c.loop-j.invariant (record {
+    subst (λ (slots : List ℕ). HaveSlots p.k stage list n.firsts (j + 1) slots) (sym c.in_ok-push.ensures.items)
+    (one_slot_more p.k stage list n.firsts j c.loop-j.slots.items slot c.loop-j.invariant (record {
       placed = node.placed;
       told = subst (λ (i : ℕ). TellsPlaced (node_at list i) stage node.placed) same c.node.ensures.placed;
-      has = subst (λ (l : ℕ). HasSlot p.k (stage, digits_of p.k stage node.placed, l) slot) last here;
-    }) in
-    subst (λ (slots : List ℕ). HaveSlots p.k stage list n.firsts (j + 1) slots) (sym c.in_ok-push.ensures.items) more
+      has = subst (λ (l : ℕ). HasSlot p.k (stage, digits_of p.k stage node.placed, l) slot)
+          (c.node.ensures.last ∙ ap (λ (i : ℕ). latest (stage, node_at list i)) same)
+          (subst (λ (k : ℕ). HasSlot k (stage, digits_of k stage node.placed, node.last) slot)
+          c.most_shift-k.ensures.k c.slot_of-slot.ensures);
+    }))
 
 pub returns : goal.returns
 returns c =
-    let n = c.args.windows.now in
-    let long = ap (λ (xs : List ℕ). length xs) c.firsts-firsts.ensures in
-    let end : c.loop-j.j ≡ length n.firsts = omega (arith, c.loop-j-test.false, c.loop-j.auto.j-end, long) in
     subst (λ (m : ℕ). HaveSlots c.args.problem.now.k c.args.stage
-    (stage_in (held_of c.args.kept.now) c.args.stage).1 n.firsts m c.loop-j.slots.items) end c.loop-j.invariant
+    (stage_in (held_of c.args.kept.now) c.args.stage).1 c.args.windows.now.firsts m c.loop-j.slots.items)
+    (omega (
+      arith,
+      c.loop-j-test.false,
+      c.loop-j.auto.j-end,
+      (ap (λ (xs : List ℕ). length xs) c.firsts-firsts.ensures),
+    )) c.loop-j.invariant

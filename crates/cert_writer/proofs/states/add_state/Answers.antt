@@ -51,85 +51,87 @@ made k same stage number ones pattern best is bits_are =
 
 pub best-requires : goal.best-requires
 best-requires c =
-    let p = c.args.problem.now in
     let ones = c.turned-ones.result in
     let slots = c.args.slots.now.items in
     let slot = ones * 8 + c.args.number % 8 in
-    let low = subst (λ (m : ℕ). ones < 2 ^ (2 * m)) c.most_shift-k.ensures.k c.turned-ones.ensures.below in
-    let within = slot_within p.k c.args.number ones (length slots) low c.requires.gathered.room in
-    subst (λ (l : List Pair). All IsPairInRange l) (sym (slot_is slots slot within c.index.result.now c.index.ensures))
+    subst (λ (l : List Pair). All IsPairInRange l)
+    (sym (slot_is slots slot
+    (slot_within c.args.problem.now.k c.args.number ones (length slots)
+    (subst (λ (m : ℕ). ones < 2 ^ (2 * m)) c.most_shift-k.ensures.k c.turned-ones.ensures.below)
+    c.requires.gathered.room) c.index.result.now c.index.ensures))
     (c.requires.gathered.in_range slot)
 
 pub returns-then-is_empty : goal.returns-then-is_empty
 returns-then-is_empty c =
     let p = c.args.problem.now in
     let held = held_of c.args.kept.now in
-    let stage = stage_held p held c.args.stage c.most_shift-k.ensures.well_formed
-    (c.stages-held.ensures.held p c.requires.held) c.requires.stage in
     let best = c.in_ok-pairs.pairs.items in
-    let are = best_at p held c.args.stage c.args.number c.most_shift-k.result c.turned-ones.result
+    none_best p (stage_in held) (lists_in held) c.args.stage
+    (stage_held p held c.args.stage c.most_shift-k.ensures.well_formed
+    (c.stages-held.ensures.held p c.requires.held) c.requires.stage) c.args.number c.turned-ones.result
+    c.args.slots.now.items best (best_at p held c.args.stage c.args.number c.most_shift-k.result c.turned-ones.result
     c.args.slots.now.items c.index.result.now best c.most_shift-k.ensures.k
     c.turned-ones.ensures.digits c.turned-ones.ensures.below c.requires.gathered c.index.ensures
-    c.in_ok-pairs.ensures.found c.in_ok-pairs.ensures.covers in
-    let none : length c.as_slice.result.now ≡ 0 = grind (arith, nat_tests, c.if-is_empty.ensures) in
-    none_best p (stage_in held) (lists_in held) c.args.stage stage c.args.number c.turned-ones.result
-    c.args.slots.now.items best are c.args.states.now.items c.requires.written
-    (subst (λ (l : List Pair). length l ≡ 0) c.as_slice.ensures.value none)
+    c.in_ok-pairs.ensures.found c.in_ok-pairs.ensures.covers) c.args.states.now.items c.requires.written
+    (subst (λ (l : List Pair). length l ≡ 0) c.as_slice.ensures.value (grind (arith, nat_tests, c.if-is_empty.ensures)))
 
 pub overflow_sub-stage : goal.overflow_sub-stage
 overflow_sub-stage c =
     let p = c.args.problem.now in
     let held = held_of c.args.kept.now in
-    let stage = stage_held p held c.args.stage c.most_shift-k.ensures.well_formed
-    (c.stages-held.ensures.held p c.requires.held) c.requires.stage in
     let best = c.in_ok-pairs.pairs.items in
-    let are = best_at p held c.args.stage c.args.number c.most_shift-k.result c.turned-ones.result
-    c.args.slots.now.items c.index.result.now best c.most_shift-k.ensures.k
-    c.turned-ones.ensures.digits c.turned-ones.ensures.below c.requires.gathered c.index.ensures
-    c.in_ok-pairs.ensures.found c.in_ok-pairs.ensures.covers in
-    let some : 1 ≤ length c.as_slice.result.now = grind (arith, nat_tests, c.if-is_empty.ensures) in
-    let known = last_known p (stage_in held) (lists_in held) c.args.stage stage c.args.number
-    c.turned-ones.result c.args.slots.now.items best are
-    (subst (λ (l : List Pair). 1 ≤ length l) c.as_slice.ensures.value some) in
-    omega (arith, known, c.most_shift-k.ensures.k)
+    omega (
+      arith,
+      (last_known p (stage_in held) (lists_in held) c.args.stage
+          (stage_held p held c.args.stage c.most_shift-k.ensures.well_formed
+          (c.stages-held.ensures.held p c.requires.held) c.requires.stage) c.args.number
+          c.turned-ones.result c.args.slots.now.items best
+          (best_at p held c.args.stage c.args.number c.most_shift-k.result c.turned-ones.result
+          c.args.slots.now.items c.index.result.now best c.most_shift-k.ensures.k
+          c.turned-ones.ensures.digits c.turned-ones.ensures.below c.requires.gathered c.index.ensures
+          c.in_ok-pairs.ensures.found c.in_ok-pairs.ensures.covers)
+          (subst (λ (l : List Pair). 1 ≤ length l) c.as_slice.ensures.value
+          (grind (arith, nat_tests, c.if-is_empty.ensures)))),
+      c.most_shift-k.ensures.k,
+    )
 
 pub new-requires : goal.new-requires
 new-requires c =
     let p = c.args.problem.now in
     let held = held_of c.args.kept.now in
-    let stage = stage_held p held c.args.stage c.most_shift-k.ensures.well_formed
-    (c.stages-held.ensures.held p c.requires.held) c.requires.stage in
     let best = c.in_ok-pairs.pairs.items in
-    let are = best_at p held c.args.stage c.args.number c.most_shift-k.result c.turned-ones.result
+    subst IsState (sym (made c.most_shift-k.result p.k c.args.stage c.args.number c.turned-ones.result
+    _ best c.most_shift-k.ensures.k c.new-pattern.ensures))
+    (written_in_form p (stage_in held) (lists_in held) c.args.stage
+    (stage_held p held c.args.stage c.most_shift-k.ensures.well_formed
+    (c.stages-held.ensures.held p c.requires.held) c.requires.stage) c.args.number
+    c.turned-ones.result c.args.slots.now.items best
+    (best_at p held c.args.stage c.args.number c.most_shift-k.result c.turned-ones.result
     c.args.slots.now.items c.index.result.now best c.most_shift-k.ensures.k
     c.turned-ones.ensures.digits c.turned-ones.ensures.below c.requires.gathered c.index.ensures
-    c.in_ok-pairs.ensures.found c.in_ok-pairs.ensures.covers in
-    let some : 1 ≤ length c.as_slice.result.now = grind (arith, nat_tests, c.if-is_empty.ensures) in
-    let form = written_in_form p (stage_in held) (lists_in held) c.args.stage stage c.args.number
-    c.turned-ones.result c.args.slots.now.items best are
-    (subst (λ (l : List Pair). 1 ≤ length l) c.as_slice.ensures.value some) c.in_ok-pairs.ensures.rising
-    c.in_ok-pairs.ensures.in_range in
-    subst IsState (sym (made c.most_shift-k.result p.k c.args.stage c.args.number c.turned-ones.result
-    _ best c.most_shift-k.ensures.k c.new-pattern.ensures)) form
+    c.in_ok-pairs.ensures.found c.in_ok-pairs.ensures.covers)
+    (subst (λ (l : List Pair). 1 ≤ length l) c.as_slice.ensures.value
+    (grind (arith, nat_tests, c.if-is_empty.ensures))) c.in_ok-pairs.ensures.rising
+    c.in_ok-pairs.ensures.in_range)
 
 pub returns : goal.returns
 returns c =
     let p = c.args.problem.now in
     let held = held_of c.args.kept.now in
-    let stage = stage_held p held c.args.stage c.most_shift-k.ensures.well_formed
-    (c.stages-held.ensures.held p c.requires.held) c.requires.stage in
     let best = c.in_ok-pairs.pairs.items in
-    let are = best_at p held c.args.stage c.args.number c.most_shift-k.result c.turned-ones.result
+    subst (λ (ss : List State). AreWrittenBelow p.k (IsEntryOf p (stage_in held) (lists_in held)) c.args.stage
+    (c.args.number + 1) ss)
+    (sym (c.in_ok-push.ensures.items ∙ ap (λ (s : State). c.args.states.now.items ++ s ∷ [])
+    (c.new.ensures ∙ made c.most_shift-k.result p.k c.args.stage c.args.number c.turned-ones.result
+    _ best c.most_shift-k.ensures.k c.new-pattern.ensures)))
+    (written_more p (stage_in held) (lists_in held) c.args.stage
+    (stage_held p held c.args.stage c.most_shift-k.ensures.well_formed
+    (c.stages-held.ensures.held p c.requires.held) c.requires.stage) c.args.number
+    c.turned-ones.result c.args.slots.now.items best
+    (best_at p held c.args.stage c.args.number c.most_shift-k.result c.turned-ones.result
     c.args.slots.now.items c.index.result.now best c.most_shift-k.ensures.k
     c.turned-ones.ensures.digits c.turned-ones.ensures.below c.requires.gathered c.index.ensures
-    c.in_ok-pairs.ensures.found c.in_ok-pairs.ensures.covers in
-    let some : 1 ≤ length c.as_slice.result.now = grind (arith, nat_tests, c.if-is_empty.ensures) in
-    let more = written_more p (stage_in held) (lists_in held) c.args.stage stage c.args.number
-    c.turned-ones.result c.args.slots.now.items best are
-    (subst (λ (l : List Pair). 1 ≤ length l) c.as_slice.ensures.value some) c.args.states.now.items
-    c.requires.written c.in_ok-pairs.ensures.rising c.in_ok-pairs.ensures.in_range in
-    let same = c.new.ensures ∙ made c.most_shift-k.result p.k c.args.stage c.args.number c.turned-ones.result
-    _ best c.most_shift-k.ensures.k c.new-pattern.ensures in
-    let all = c.in_ok-push.ensures.items ∙ ap (λ (s : State). c.args.states.now.items ++ s ∷ []) same in
-    subst (λ (ss : List State). AreWrittenBelow p.k (IsEntryOf p (stage_in held) (lists_in held)) c.args.stage
-    (c.args.number + 1) ss) (sym all) more
+    c.in_ok-pairs.ensures.found c.in_ok-pairs.ensures.covers)
+    (subst (λ (l : List Pair). 1 ≤ length l) c.as_slice.ensures.value
+    (grind (arith, nat_tests, c.if-is_empty.ensures))) c.args.states.now.items
+    c.requires.written c.in_ok-pairs.ensures.rising c.in_ok-pairs.ensures.in_range)

@@ -1,3 +1,4 @@
+use Rattle.std.proofs.Common.{rules}
 use Rattle.std.proofs.Common.{◌≡◌, ◌+◌, suc, get_or, set, sym, ap, ◌∙◌, arith}
 use Rattle.std.proofs.lemmas.Option.{get_or_from_slice_get}
 use Rattle.indexmap.specs.IndexMap.{values}
@@ -17,17 +18,14 @@ loop-i-preserved c =
     let a = c.index_mut.result.now in
     let y = get_or ys i 0 in
     let m : i + 1 ≡ suc i = omega arith in
-    let long = c.requires in
-    let within = c.loop-i-test.true in
     record {
       flights =
           values_set c.loop-i.active.entries i c.freeze_one.new.active ∙ ap (set now i) c.freeze_one.ensures
           ∙ ap (λ x. set now i (turn x y)) (sym (get_or_from_slice_get now i a a c.index_mut.ensures.value))
           ∙ ap (λ l. set l i (turn (get_or l i a) y)) c.loop-i.invariant.flights
-          ∙ turned-step turn i old ys a 0 long (omega arith) ∙ ap (λ j. turned turn j old ys) (sym m);
+          ∙ turned-step turn i old ys a 0 c.requires (omega arith) ∙ ap (λ j. turned turn j old ys) (sym m);
       keys = keys-with_value_at c.loop-i.active i c.freeze_one.new.active ∙ c.loop-i.invariant.keys;
     }
 
 pub returns-clause-flights : goal.returns-clause-flights
-returns-clause-flights c = c.loop-i.invariant.flights ∙ turned-all (frozen_one c.args.freeze.now) c.loop-i.i
-    (values c.args.active.now) c.args.seconds.now c.requires (omega (arith, c.loop-i-test.false, c.loop-i.auto.i-end))
+returns-clause-flights c = search (rules, turned-all)

@@ -1,18 +1,19 @@
-use Rattle.std.proofs.Common.{Option, false, ap, ◌∙◌}
-use Rattle.std.specs.Option.{option_map_or}
+use Rattle.std.proofs.Common.{arith}
 use Rattle.landing_rules.specs.Flights.{Active}
 use Rattle.situations.specs.Refused.{is_not_before}
 use Rattle.situations.proofs.Keyed.{any_named}
 use Rattle.situations.proofs.given.lands_late.Goals as goal
 
 pub returns-in-None : goal.returns-in-None
-returns-in-None c =
-    let late = λ (a : Active). is_not_before c.args.second a.frozen in
-    ap (λ (o : Option Active). option_map_or late o false) c.in-None.ensures
-    ∙ any_named c.args.callsign late c.args.situation.now.active c.known_apart.ensures
+returns-in-None c = grind (
+  arith,
+  any_named c.args.callsign (λ (a : Active). is_not_before c.args.second a.frozen)
+      c.args.situation.now.active c.known_apart.ensures,
+)
 
 pub returns-in-Some : goal.returns-in-Some
-returns-in-Some c =
-    let late = λ (a : Active). is_not_before c.args.second a.frozen in
-    c.is_not_before.ensures ∙ ap (λ (o : Option Active). option_map_or late o false) c.in-Some.ensures
-    ∙ any_named c.args.callsign late c.args.situation.now.active c.known_apart.ensures
+returns-in-Some c = grind (
+  arith,
+  any_named c.args.callsign (λ (a : Active). is_not_before c.args.second a.frozen)
+      c.args.situation.now.active c.known_apart.ensures,
+)

@@ -8,8 +8,7 @@ use Rattle.situations.proofs.situation.all_known.Goals as goal
 
 pub loop-flight-preserved : goal.loop-flight-preserved
 loop-flight-preserved c =
-    let fs = c.args.flights.now in
-    All-more (λ f. IsKept (flight_of f)) fs c.loop-flight.flight-index c.flight-item.result
+    All-more (λ f. IsKept (flight_of f)) c.args.flights.now c.loop-flight.flight-index c.flight-item.result
     c.loop-flight-test.true c.loop-flight.invariant
     (subst (λ g. IsKept (flight_of g)) c.flight-item.is c.known.ensures)
 

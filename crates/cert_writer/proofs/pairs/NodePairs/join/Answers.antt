@@ -1,4 +1,4 @@
-use Rattle.std.proofs.Common.{ℕ, ◌<◌, inl, inr, length, arith, sym, subst, refl}
+use Rattle.std.proofs.Common.{ℕ, inl, inr, arith, sym, subst, refl}
 use Rattle.std.proofs.lemmas.Bool.{cases_eq}
 use Rattle.cps_theory.specs.Labels.{InPairs, NoWorse, Pair}
 use Rattle.cps_theory.specs.laws.LabelDominance.{no_worse_trans}
@@ -16,12 +16,12 @@ pub loop-j-preserved : goal.loop-j-preserved
 loop-j-preserved c =
     let list = list_at (lists_in (held_of c.args.kept.now) c.args.stage) c.args.i in
     let inv = c.loop-j.invariant in
-    let now = c.in_ok-keep.ensures in
-    let lt : c.loop-j.j < length list = omega (arith, c.loop-j-test.true, c.label_count-j-end.ensures) in (
+    let now = c.in_ok-keep.ensures in (
       λ q i. elim (now.found q i) [
         | inl old ↦ inv.0 q old
         | inr e ↦ inr (subst (λ (x : Pair). InPairs x list) (sym e)
-            (at_in list c.loop-j.j c.label.result lt (sym c.label.ensures.value)))
+            (at_in list c.loop-j.j c.label.result (omega (arith, c.loop-j-test.true, c.label_count-j-end.ensures))
+            (sym c.label.ensures.value)))
       ],
       λ q i. (let o = inv.1 q i in let n = now.covers o.0 (inl o.1) in (n.0, n.1, no_worse_trans n.0 o.0 q n.2 o.2)),
       λ m less. elim (cases_eq m c.loop-j.j) [

@@ -24,9 +24,8 @@ AddAnswer c there flights waiting rest = if there then Some (Duplicate c)
 pub returns : goal.returns
 unfolding AddAnswer
 returns c =
-    let found = find (λ g. lists g.flight c.args.flight.now.callsign) (frozen_landings c.args.self.now) in
-    let rest = ap (option_map PredecessorOfFrozen) (c.first_frozen_listing.ensures
-    ∙ sym (listing c.args.flight.now.callsign c.args.self.now.active)) ∙ twice found in
     c.add_answer.ensures ∙ (λ i. option_map {T = Refusal} Some
     (AddAnswer c.args.flight.now.callsign (c.is_active.ensures i) (c.count_active.ensures i)
-    (c.count_waiting.ensures i) (rest i)))
+    (c.count_waiting.ensures i) ((ap (option_map PredecessorOfFrozen) (c.first_frozen_listing.ensures
+    ∙ sym (listing c.args.flight.now.callsign c.args.self.now.active)) ∙ twice
+    (find (λ g. lists g.flight c.args.flight.now.callsign) (frozen_landings c.args.self.now))) i)))

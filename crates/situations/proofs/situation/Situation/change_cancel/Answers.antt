@@ -1,24 +1,18 @@
-use Rattle.std.proofs.Common.{refl, ◌-◌, is_some, sym, ap, ◌∙◌}
+use Rattle.std.proofs.Common.{rules}
+use Rattle.std.proofs.Common.{◌-◌, is_some, ap, ◌∙◌}
 use Rattle.std.specs.Prelude.{find}
-use Rattle.std.proofs.lemmas.Bool.{false≢true}
 use Rattle.indexmap.specs.IndexMap.{move_index}
 use Rattle.landing_rules.specs.Flights.{Situation}
 use Rattle.landing_rules.specs.Events.{named}
 use Rattle.situations.proofs.Changed.{cancelled_is}
-use Rattle.situations.proofs.ChangedFlights.{in_step}
 use Rattle.situations.proofs.Keyed.{found_named, keyed_moved, looked_up, some_from}
 use Rattle.situations.proofs.situation.Situation.change_cancel.Goals as goal
 
 pub unreachable-requires : goal.unreachable-requires
-unreachable-requires c =
-    let callsign = c.args.callsign in
-    false≢true (ap is_some (sym c.in-None.is) ∙ c.get_index_of.ensures.found
-    ∙ ap is_some (looked_up callsign c.self.inside.active.entries c.self.invariant.keyed)
-    ∙ ap (λ (s : Situation). is_some (find (named callsign) s.active)) c.self.view_is ∙ c.requires)
+unreachable-requires c = search (rules, looked_up)
 
 pub invariant_of-self : goal.invariant_of-self
-invariant_of-self c = in_step _ _ _ refl c.self.invariant (keyed_moved c.self.inside.active.entries
-    c.move_index.new.self.entries c.in-Some.place _ c.move_index.ensures.entries c.self.invariant.keyed)
+invariant_of-self c = search (rules, keyed_moved)
 
 pub returns : goal.returns
 returns c =
@@ -27,9 +21,9 @@ returns c =
     let es = inside.active.entries in
     let found = some_from _ (ap (λ (s : Situation). is_some (find (named callsign) s.active)) c.self.view_is
     ∙ c.requires) in
-    let at = c.in-Some.ensures.value ∙ looked_up callsign es c.self.invariant.keyed ∙ found.1 in
-    let moved = c.move_index.ensures.entries ∙ ap (λ n. move_index es c.in-Some.place (n - 1)) c.len-last.ensures.len in
     rw (← c.self.view_is)
     (cancelled_is inside.fixed inside.closures inside.clock callsign es c.move_index.new.self.entries
-    c.in-Some.place found.0 c.self.invariant.keyed c.get_index_of.ensures.unique at
-    (found_named callsign _ found.0 found.1) moved)
+    c.in-Some.place found.0 c.self.invariant.keyed c.get_index_of.ensures.unique
+    (c.in-Some.ensures.value ∙ looked_up callsign es c.self.invariant.keyed ∙ found.1)
+    (found_named callsign _ found.0 found.1)
+    (c.move_index.ensures.entries ∙ ap (λ n. move_index es c.in-Some.place (n - 1)) c.len-last.ensures.len))

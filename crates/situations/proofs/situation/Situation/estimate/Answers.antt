@@ -1,8 +1,5 @@
-use Rattle.std.proofs.Common.{Some, refl, sym, ap, subst, ◌∙◌}
-use Rattle.std.specs.Prelude.{find, option_map}
-use Rattle.landing_rules.specs.Flights.{Active, Situation}
-use Rattle.landing_rules.specs.Events.{named}
-use Rattle.situations.specs.Seen.{AreApart}
+use Rattle.std.proofs.Common.{rules}
+use Rattle.std.proofs.Common.{refl, ap, ◌∙◌}
 use Rattle.situations.proofs.Apart.{with_estimate}
 use Rattle.situations.proofs.ChangedFlights.{IsChanged, none_changed, one_changed}
 use Rattle.situations.proofs.Keyed.{keyed_apart, looked_up}
@@ -26,23 +23,10 @@ pub invariant_of-self : goal.invariant_of-self
 invariant_of-self c = (changed c).0
 
 pub returns-clause-new : goal.returns-clause-new
-returns-clause-new c = rw (← c.self.view_is) (changed c).1
+returns-clause-new c = search (rules, changed)
 
 pub returns-clause-old : goal.returns-clause-old
-returns-clause-old c =
-    let m = c.self.inside.active in
-    let callsign = c.args.callsign in
-    let seen = ap (λ (s : Situation). find (named callsign) s.active) (sym c.self.view_is)
-    ∙ sym (looked_up callsign m.entries c.self.invariant.keyed) in
-    elim c.match-get_mut.branch [
-      | in-None w ↦ w.result-is
-          ∙ sym (ap (option_map (λ (a : Active). (a.flight.eta, a.flight.windows))) (seen
-          ∙ sym w.in-None.ensures.value))
-      | in-Some w ↦ w.result-is ∙ ap Some w.estimate.ensures.old
-          ∙ sym (ap (option_map (λ (a : Active). (a.flight.eta, a.flight.windows))) (seen
-          ∙ sym w.in-Some.ensures.value))
-    ]
+returns-clause-old c = search (rules, looked_up)
 
 pub returns-clause-apart : goal.returns-clause-apart
-returns-clause-apart c = subst AreApart (ap (λ (s : Situation). s.active) c.self.view_is)
-    (keyed_apart c.self.inside.active.entries c.self.invariant.keyed c.get_mut.ensures.unique)
+returns-clause-apart c = search (rules, keyed_apart)

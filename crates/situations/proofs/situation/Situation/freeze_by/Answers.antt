@@ -11,10 +11,10 @@ use Rattle.situations.proofs.situation.Situation.freeze_by.Goals as goal
 
 pub invariant_of-self : goal.invariant_of-self
 invariant_of-self c =
-    let long = ap (λ (s : Situation). length s.active) c.self.view_is ∙ sym c.requires in
     in_step _ _ _ refl c.self.invariant (keyed_still c.self.inside.active.entries c.freeze_each.new.active.entries _
     c.freeze_each.ensures.keys c.freeze_each.ensures.flights
-    (names_frozen c.in_ok-freeze.freeze (values c.self.inside.active) c.args.seconds.now long)
+    (names_frozen c.in_ok-freeze.freeze (values c.self.inside.active) c.args.seconds.now
+    (ap (λ (s : Situation). length s.active) c.self.view_is ∙ sym c.requires))
     c.self.invariant.keyed)
 
 pub returns-clause-new : goal.returns-clause-new
@@ -24,7 +24,7 @@ returns-clause-new c =
     let active = values inside.active in
     let ts = c.args.seconds.now in
     let z = c.in_ok-freeze.freeze in
-    let of = subst (λ l. IsFreezeOf a c.args.h l ts z) (c.flights.ensures
-    ∙ sym (ap (λ (s : Situation). s.active) c.self.view_is)) c.in_ok-freeze.ensures in
     rw (← c.self.view_is) (ap (λ l. situation_of inside.fixed l inside.closures inside.clock)
-    (c.freeze_each.ensures.flights ∙ frozen_flights a c.args.h active ts z of active ts))
+    (c.freeze_each.ensures.flights ∙ frozen_flights a c.args.h active ts z
+    (subst (λ l. IsFreezeOf a c.args.h l ts z) (c.flights.ensures
+    ∙ sym (ap (λ (s : Situation). s.active) c.self.view_is)) c.in_ok-freeze.ensures) active ts))

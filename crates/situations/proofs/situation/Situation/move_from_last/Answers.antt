@@ -1,7 +1,6 @@
-use Rattle.std.proofs.Common.{refl, ◌-◌, sym, ap, ◌∙◌}
+use Rattle.std.proofs.Common.{rules}
+use Rattle.std.proofs.Common.{refl}
 use Rattle.std.proofs.lemmas.List.{length-map}
-use Rattle.indexmap.specs.IndexMap.{move_index, values}
-use Rattle.situations.specs.Seen.{situation_of}
 use Rattle.situations.proofs.ChangedFlights.{in_step}
 use Rattle.situations.proofs.Keyed.{keyed_moved, values_moved}
 use Rattle.situations.proofs.situation.Situation.move_from_last.Goals as goal
@@ -11,11 +10,4 @@ invariant_of-self c = in_step _ _ _ refl c.self.invariant (keyed_moved c.self.in
     c.move_index.new.self.entries _ c.args.place c.move_index.ensures.entries c.self.invariant.keyed)
 
 pub returns : goal.returns
-returns c =
-    let inside = c.self.inside in
-    let es = inside.active.entries in
-    let vs = values inside.active in
-    rw (← c.self.view_is)
-    (ap (λ l. situation_of inside.fixed l inside.closures inside.clock)
-    (values_moved es c.move_index.new.self.entries _ c.args.place c.move_index.ensures.entries
-    ∙ ap (λ n. move_index vs (n - 1) c.args.place) (c.len-last.ensures.len ∙ sym (length-map es (λ e. e.1)))))
+returns c = search (rules, values_moved, length-map)
