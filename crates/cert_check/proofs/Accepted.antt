@@ -1,7 +1,6 @@
 -- What an accepted certificate means.
-use Rattle.std.proofs.Common.{rules}
-use Rattle.std.proofs.Common.{◌≡◌, ℕ, ◌≤◌, Bool, true, false, cond, List, [], ◌∷◌, length, Option, Some}
-use Rattle.std.proofs.Common.{None, refl, subst}
+use Rattle.std.proofs.Common.{rules, ◌≡◌, ℕ, ◌≤◌, Bool, true, false, cond, List, [], ◌∷◌, length, Option, Some, None}
+use Rattle.std.proofs.Common.{refl, subst}
 use Rattle.std.specs.Prelude.{◌==◌}
 use Rattle.std.specs.Option.{option_or}
 use Rattle.std.proofs.lemmas.List.{length-map}
@@ -18,12 +17,11 @@ use Rattle.certificate.specs.States.{State}
 use Rattle.certificate.specs.Reading.{Cert}
 use Rattle.cert_check.specs.declared.verdict.Reason.{Reason}
 use Rattle.cert_check.specs.declared.verdict.Verdict.TheVariants as verdict
-use Rattle.cert_check.specs.Landings.{Landings, count, second_of, seconds, is_shut, is_early}
-use Rattle.cert_check.specs.Landings.{first_too_close, first_out_of_order, is_shifted}
-use Rattle.cert_check.specs.States.{first_missed, missed_from, start_node, is_final}
-use Rattle.cert_check.specs.States.{final_failure}
-use Rattle.cert_check.specs.Verdict.{with_pair, flights_reason, landing_reason, claim_reason}
-use Rattle.cert_check.specs.Verdict.{state_reason, failure, verdict_by, verdict_of}
+use Rattle.cert_check.specs.Landings.{Landings, count, second_of, seconds, is_shut, is_early, first_too_close}
+use Rattle.cert_check.specs.Landings.{first_out_of_order, is_shifted}
+use Rattle.cert_check.specs.States.{first_missed, missed_from, start_node, is_final, final_failure}
+use Rattle.cert_check.specs.Verdict.{with_pair, flights_reason, landing_reason, claim_reason, state_reason, failure}
+use Rattle.cert_check.specs.Verdict.{verdict_by, verdict_of}
 use Rattle.cert_check.specs.Meaning.{IsShownOptimal, NothingIsFeasible}
 use Rattle.cert_check.proofs.Bounds.{none_below, none_at_all}
 use Rattle.cert_check.proofs.Sound.{are_its_landings, are_feasible, passed_low}

@@ -1,6 +1,5 @@
 -- Where the states miss no successor, no feasible schedule is below them, and where none is final, nothing is feasible.
-use Rattle.std.proofs.Common.{rules}
-use Rattle.std.proofs.Common.{◌≡◌, ℕ, zero, suc, ◌≤◌, inl, inr, true, List, [], ◌∷◌, None, subst, arith}
+use Rattle.std.proofs.Common.{rules, ◌≡◌, ℕ, zero, suc, ◌≤◌, inl, inr, true, List, [], ◌∷◌, None, subst, arith}
 use Rattle.landing_rules.specs.Problem.{Problem}
 use Rattle.cps_theory.specs.Separation.{Landing}
 use Rattle.cps_theory.specs.Retiming.{NeverEarlier}
@@ -21,8 +20,8 @@ use Rattle.landing_joint.specs.shared.FirstOpen.{is_first_open}
 use Rattle.cps_problem.specs.WellFormed.{IsWellFormed}
 use Rattle.certificate.specs.States.{State}
 use Rattle.cert_check.specs.Landings.{count}
-use Rattle.cert_check.specs.States.{node_of, pairs_of, rules_of, ready, first_missed, missed_from, start_node}
-use Rattle.cert_check.specs.States.{is_final, is_final_below}
+use Rattle.cert_check.specs.States.{node_of, pairs_of, rules_of, ready, first_missed, missed_from, start_node, is_final}
+use Rattle.cert_check.specs.States.{is_final_below}
 use Rattle.cert_check.proofs.Sound.{sound_problem}
 
 module _ (p : Problem) where

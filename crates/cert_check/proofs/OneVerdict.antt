@@ -1,7 +1,6 @@
 -- The verdict on a certificate is one for a situation.
-use Rattle.std.proofs.Common.{rules}
-use Rattle.std.proofs.Common.{◌≡◌, ℕ, List, [], ◌∷◌, length, Option, Some, None, Bool, not, ◌&&◌, ◌-◌, refl, ap, ap₂}
-use Rattle.std.proofs.Common.{◌∙◌}
+use Rattle.std.proofs.Common.{rules, ◌≡◌, ℕ, List, [], ◌∷◌, length, Option, Some, None, Bool, not, ◌&&◌, ◌-◌, refl, ap}
+use Rattle.std.proofs.Common.{ap₂, ◌∙◌}
 use Rattle.std.specs.Prelude.{◌==◌, nat_lt, option_map, if◌then◌else◌}
 use Rattle.std.specs.Option.{option_or}
 use Rattle.precedence.specs.Pairs.{must_precede}

@@ -1,6 +1,5 @@
 -- The states of a certificate stand in the order of their nodes.
-use Rattle.std.proofs.Common.{rules}
-use Rattle.std.proofs.Common.{List, [], ◌∷◌}
+use Rattle.std.proofs.Common.{rules, List, [], ◌∷◌}
 use Rattle.certificate.specs.States.{State, AreAscending}
 use Rattle.cps_theory.specs.CertificateClosure.{InNodeOrder}
 use Rattle.cert_check.specs.States.{node_of, pairs_of}

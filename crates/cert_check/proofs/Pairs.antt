@@ -1,7 +1,6 @@
 -- Of pairs whose seconds rise and whose costs fall, the last that is no later is the cheapest.
-use Rattle.std.proofs.Common.{rules}
-use Rattle.std.proofs.Common.{◌≡◌, ℕ, zero, suc, ◌<◌, ◌≤◌, Bool, true, false, ◌&&◌, ◌||◌, leb, List, [], ◌∷◌, length}
-use Rattle.std.proofs.Common.{get_or, refl, ap₂, arith}
+use Rattle.std.proofs.Common.{rules, ◌≡◌, ℕ, zero, suc, ◌<◌, ◌≤◌, Bool, true, false, ◌&&◌, ◌||◌, leb, List, [], ◌∷◌}
+use Rattle.std.proofs.Common.{length, get_or, refl, ap₂, arith}
 use Rattle.std.specs.List.{list_any}
 use Rattle.std.proofs.lemmas.Bool.{ltb-true, and_left, and_parts}
 use Rattle.cps_theory.specs.Labels.{Pair, no_worse}

@@ -1,6 +1,5 @@
 -- What the shape of a state says of its last rank.
-use Rattle.std.proofs.Common.{rules}
-use Rattle.std.proofs.Common.{◌≡◌, ◌≤◌, false}
+use Rattle.std.proofs.Common.{rules, ◌≡◌, ◌≤◌, false}
 use Rattle.landing_rules.specs.Problem.{Problem}
 use Rattle.certificate.specs.States.{State}
 use Rattle.cert_check.specs.Landings.{count}

@@ -1,11 +1,9 @@
 -- What the tests of the landings and of the states say where none of them finds anything.
-use Rattle.std.proofs.Common.{rules}
-use Rattle.std.proofs.Common.{◌≡◌, ℕ, zero, suc, ◌+◌, ◌<◌, ◌≤◌, inl, inr, Bool, true, false, not, ◌&&◌, ltb}
+use Rattle.std.proofs.Common.{rules, ◌≡◌, ℕ, zero, suc, ◌+◌, ◌<◌, ◌≤◌, inl, inr, Bool, true, false, not, ◌&&◌, ltb}
 use Rattle.std.proofs.Common.{length, Option, Some, None, refl, ap, ◌∙◌, arith}
 use Rattle.std.specs.Prelude.{◌==◌, bytes_eq, count_by, option_map, is_some}
 use Rattle.std.proofs.lemmas.List.{length-map}
-use Rattle.std.proofs.lemmas.Bool.{cases_lt, cases_eq, ltb-false, ltb-true, eqb-true, or_parts}
-use Rattle.std.proofs.lemmas.Bool.{not-false}
+use Rattle.std.proofs.lemmas.Bool.{cases_lt, cases_eq, ltb-false, ltb-true, eqb-true, or_parts, not-false}
 use Rattle.landing_rules.specs.Problem.{Problem}
 use Rattle.cps_theory.specs.RankLists.{IsRank, of_rank}
 use Rattle.cps_theory.specs.Feasible.{Feasible, SoundProblem}
@@ -15,9 +13,9 @@ use Rattle.landing_joint.specs.RankedProblem.{ranked}
 use Rattle.landing_joint.specs.shared.RankedLists.{place_is, sound_ranked}
 use Rattle.cps_problem.specs.WellFormed.{IsWellFormed}
 use Rattle.certificate.specs.declared.certificate.Claim.TheVariants.{Optimal}
-use Rattle.cert_check.specs.Landings.{Landings, count, flight, second_of, seconds, second, is_not_once}
-use Rattle.cert_check.specs.Landings.{are_not_flights, is_shut, is_early, is_close_behind, are_too_close}
-use Rattle.cert_check.specs.Landings.{are_out_of_order, first_too_close, first_out_of_order, place, is_shifted}
+use Rattle.cert_check.specs.Landings.{Landings, count, flight, second_of, seconds, second, is_not_once, are_not_flights}
+use Rattle.cert_check.specs.Landings.{is_shut, is_early, is_close_behind, are_too_close, are_out_of_order}
+use Rattle.cert_check.specs.Landings.{first_too_close, first_out_of_order, place, is_shifted}
 use Rattle.cert_check.specs.Meaning.{AreItsLandings}
 
 -- ---- tests

@@ -1,6 +1,5 @@
 -- A problem has one list of states that leaves nothing out.
-use Rattle.std.proofs.Common.{arith, rules}
-use Rattle.std.proofs.Common.{◌≡◌, true, List, [], ◌∷◌, refl, sym, subst}
+use Rattle.std.proofs.Common.{arith, rules, ◌≡◌, true, List, [], ◌∷◌, refl, sym, subst}
 use Rattle.std.specs.Ordering.{is_lt}
 use Rattle.std.specs.declared.cmp.Ordering.{Ordering}
 use Rattle.std.specs.declared.cmp.Ordering.TheVariants.{Less, Equal, Greater}

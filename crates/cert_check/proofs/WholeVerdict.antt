@@ -1,6 +1,5 @@
 -- A whole certificate is accepted.
-use Rattle.std.proofs.Common.{rules}
-use Rattle.std.proofs.Common.{◌≡◌, None, List, refl}
+use Rattle.std.proofs.Common.{rules, ◌≡◌, None, List, refl}
 use Rattle.landing_rules.specs.Problem.{Problem}
 use Rattle.cps_problem.specs.WellFormed.{IsWellFormed}
 use Rattle.certificate.specs.declared.certificate.Claim.{Claim}

@@ -1,8 +1,7 @@
 -- The state of a slot.
-use Rattle.std.proofs.Common.{rules}
+use Rattle.std.proofs.Common.{rules, ◌≡◌, ℕ, ◌+◌, ◌-◌, ◌*◌, ◌/◌, ◌%◌, ◌<◌, ◌≤◌, ◌^◌, inl, List, [], ◌∷◌, ◌++◌, length}
+use Rattle.std.proofs.Common.{get_or, true, Option, refl, sym, ◌∙◌, arith}
 use Rattle.std.proofs.lemmas.Grind.{common_steps}
-use Rattle.std.proofs.Common.{◌≡◌, ℕ, ◌+◌, ◌-◌, ◌*◌, ◌/◌, ◌%◌, ◌<◌, ◌≤◌, ◌^◌, inl, List, [], ◌∷◌, ◌++◌, length, get_or}
-use Rattle.std.proofs.Common.{true, Option, refl, sym, ◌∙◌, arith}
 use Rattle.std.specs.Prelude.{ℤ}
 use Rattle.std.specs.List.{list_all}
 use Rattle.landing_rules.specs.Problem.{Problem}
@@ -13,13 +12,12 @@ use Rattle.cps_network.specs.Lists.{node_at}
 use Rattle.cps_network.specs.Pairs.{HoldsCosts, list_at}
 use Rattle.replan.specs.Held.{HeldProblem}
 use Rattle.replan.specs.Readers.{AreStagesOf, stage_in, lists_in}
-use Rattle.certificate.specs.Patterns.{bits}
+use Rattle.certificate.specs.Patterns.{bits, number_of}
 use Rattle.certificate.specs.States.{State, IsState, is_pair, rises}
 use Rattle.cert_check.specs.States.{node_of}
 use Rattle.cert_check.specs.shared.KeptPairs.{HoldsEntries}
 use Rattle.cert_writer.specs.StageEntries.{IsEntry, IsEntryOf}
 use Rattle.cert_writer.specs.Gathered.{AreGathered, HasBetter, HasOnly}
-use Rattle.certificate.specs.Patterns.{number_of}
 use Rattle.cert_writer.specs.Slots.{HasNumber, HasSlot}
 use Rattle.cert_writer.specs.Written.{AreWrittenBelow}
 use Rattle.cert_writer.proofs.SlotLemmas.{number_near, number_slot, length_bits}

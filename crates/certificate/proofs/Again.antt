@@ -1,8 +1,7 @@
 -- What is printed reads back.
-use Rattle.std.proofs.Common.{rules}
+use Rattle.std.proofs.Common.{rules, ◌≡◌, ℕ, ◌≤◌, Bool, true, false, leb, not, List, [], ◌∷◌, ◌++◌, length, map, Some}
+use Rattle.std.proofs.Common.{None, refl, arith}
 use Rattle.std.proofs.lemmas.Grind.{common_steps}
-use Rattle.std.proofs.Common.{◌≡◌, ℕ, ◌≤◌, Bool, true, false, leb, not, List, [], ◌∷◌, ◌++◌, length, map}
-use Rattle.std.proofs.Common.{Some, None, refl, arith}
 use Rattle.std.specs.Prelude.{◌==◌, codes, decimal}
 use Rattle.std.specs.List.{list_all}
 use Rattle.std.proofs.lemmas.Bool.{leb-true, and_parts}
@@ -16,8 +15,8 @@ use Rattle.certificate.specs.declared.certificate.Claim.TheVariants.{Optimal, In
 use Rattle.certificate.specs.Reading.{IsClaim}
 use Rattle.certificate.specs.Patterns.{is_pattern_length}
 use Rattle.certificate.specs.States.{Pair, State, IsState, is_pair}
-use Rattle.certificate.specs.Lines.{digit_of, is_digit, are_pattern_digits, pattern_in, pair_in, pairs_in}
-use Rattle.certificate.specs.Lines.{state_in, state_by, state_from, landing_in, landing_by, claim_in, claim_by}
+use Rattle.certificate.specs.Lines.{digit_of, is_digit, are_pattern_digits, pattern_in, pair_in, pairs_in, state_in}
+use Rattle.certificate.specs.Lines.{state_by, state_from, landing_in, landing_by, claim_in, claim_by}
 use Rattle.certificate.specs.Spelling.{digit_text, pattern_text, pair_text, pairs_text, state_text, landing_text}
 use Rattle.certificate.specs.Spelling.{claim_text}
 

@@ -1,6 +1,5 @@
 -- What a text reads as prints back as the text.
-use Rattle.std.proofs.Common.{rules}
-use Rattle.std.proofs.Common.{◌≡◌, ℕ, ◌<◌, ◌^◌, Bool, true, false, ltb, eqb, not, ◌&&◌, ◌||◌, List, [], ◌∷◌}
+use Rattle.std.proofs.Common.{rules, ◌≡◌, ℕ, ◌<◌, ◌^◌, Bool, true, false, ltb, eqb, not, ◌&&◌, ◌||◌, List, [], ◌∷◌}
 use Rattle.std.proofs.Common.{◌++◌, length, get_or, map, Some, refl, arith}
 use Rattle.std.specs.Prelude.{◌==◌, codes, decimal, bytes_eq, option_map, option_and_then}
 use Rattle.std.specs.List.{list_all, join_with_byte}

@@ -1,6 +1,5 @@
 -- One more line of the text, and a line at which it fails.
-use Rattle.std.proofs.Common.{rules}
-use Rattle.std.proofs.Common.{◌≡◌, ℕ, ◌<◌, length, List, [], ◌∷◌, Result, Ok, Err, inl, inr, refl}
+use Rattle.std.proofs.Common.{rules, ◌≡◌, ℕ, ◌<◌, length, List, [], ◌∷◌, Result, Ok, Err, inl, inr, refl}
 use Rattle.cps_base.specs.Answers.{Fails}
 use Rattle.certificate.specs.declared.certificate.Claim.{Claim}
 use Rattle.certificate.specs.declared.fault.CertFault.{CertFault}

@@ -1,8 +1,7 @@
 -- The text of a certificate is cut into its lines, and reads back.
-use Rattle.std.proofs.Common.{rules}
+use Rattle.std.proofs.Common.{rules, ◌≡◌, ℕ, ◌<◌, ◌≤◌, ◌^◌, Bool, true, false, not, List, [], ◌∷◌, ◌++◌, map, Ok, refl}
+use Rattle.std.proofs.Common.{arith}
 use Rattle.std.proofs.lemmas.Grind.{common_steps}
-use Rattle.std.proofs.Common.{◌≡◌, ℕ, ◌<◌, ◌≤◌, ◌^◌, Bool, true, false, not, List, [], ◌∷◌, ◌++◌, map, Ok}
-use Rattle.std.proofs.Common.{refl, arith}
 use Rattle.std.specs.Prelude.{◌==◌, codes, decimal}
 use Rattle.std.specs.List.{list_all}
 use Rattle.std.proofs.lemmas.List.Elements.{All-append, All-cons}
@@ -13,8 +12,8 @@ use Rattle.texts.specs.shared.Printed.{Lacks, callsign_lacks, cut, decimal_lacks
 use Rattle.certificate.specs.declared.certificate.Claim.{Claim}
 use Rattle.certificate.specs.declared.certificate.Claim.TheVariants.{Optimal, Infeasible}
 use Rattle.certificate.specs.States.{Pair, State, IsState, AreStates}
-use Rattle.certificate.specs.Reading.{Cert, IsClaim, AreLandings, IsCertificate, body_lines}
-use Rattle.certificate.specs.Reading.{certificate_by, certificate_of}
+use Rattle.certificate.specs.Reading.{Cert, IsClaim, AreLandings, IsCertificate, body_lines, certificate_by}
+use Rattle.certificate.specs.Reading.{certificate_of}
 use Rattle.certificate.specs.Spelling.{digit_text, pattern_text, pair_text, pairs_text, state_text, landing_text}
 use Rattle.certificate.specs.Spelling.{claim_text, landing_lines, state_lines, certificate_text}
 use Rattle.certificate.proofs.Again.{in_ranges, ArePairs, claim_reads}

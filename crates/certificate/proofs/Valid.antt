@@ -1,6 +1,5 @@
 -- What a text is read as keeps the ranges and the order.
-use Rattle.std.proofs.Common.{rules}
-use Rattle.std.proofs.Common.{◌≡◌, ℕ, suc, ◌+◌, ◌-◌, ◌<◌, ◌≤◌, Bool, true, false, cond, List, [], ◌∷◌, ◌++◌}
+use Rattle.std.proofs.Common.{rules, ◌≡◌, ℕ, suc, ◌+◌, ◌-◌, ◌<◌, ◌≤◌, Bool, true, false, cond, List, [], ◌∷◌, ◌++◌}
 use Rattle.std.proofs.Common.{length, Option, Some, None, Result, Ok, Err, refl, arith, length-append}
 use Rattle.std.specs.Prelude.{option_map, option_and_then}
 use Rattle.std.specs.List.{list_all}
@@ -13,12 +12,10 @@ use Rattle.texts.specs.Parts.{number_in, parts}
 use Rattle.certificate.specs.declared.certificate.Claim.{Claim}
 use Rattle.certificate.specs.declared.fault.CertFault.{CertFault}
 use Rattle.certificate.specs.Patterns.{is_pattern_length}
-use Rattle.certificate.specs.States.{Pair, State, IsState, is_pair, follows, AreStates}
-use Rattle.certificate.specs.States.{AreAscending}
-use Rattle.certificate.specs.Lines.{pattern_in, pair_in, pairs_in, state_from}
-use Rattle.certificate.specs.Lines.{state_by, state_in, landing_by, landing_in}
-use Rattle.certificate.specs.Reading.{Cert, IsClaim, AreLandings, IsCertificate, Body}
-use Rattle.certificate.specs.Reading.{line_in, lines_in, body_lines}
+use Rattle.certificate.specs.States.{Pair, State, IsState, is_pair, follows, AreStates, AreAscending}
+use Rattle.certificate.specs.Lines.{pattern_in, pair_in, pairs_in, state_from, state_by, state_in, landing_by}
+use Rattle.certificate.specs.Lines.{landing_in}
+use Rattle.certificate.specs.Reading.{Cert, IsClaim, AreLandings, IsCertificate, Body, line_in, lines_in, body_lines}
 use Rattle.certificate.specs.shared.PartsKept.{landings_more}
 
 pub then_some : {A B : Type 0} (o : Option A) (f : A → Option B) (y : B) → option_and_then f o ≡ Some y

@@ -1,8 +1,7 @@
 -- A whole text that is read prints back as the text.
-use Rattle.std.proofs.Common.{rules}
+use Rattle.std.proofs.Common.{rules, ◌≡◌, ℕ, ◌+◌, Bool, true, false, cond, List, [], ◌∷◌, ◌++◌, length, Option, Some}
+use Rattle.std.proofs.Common.{None, Result, Ok, Err, refl, sym, ap, ◌∙◌, arith, append_assoc}
 use Rattle.std.proofs.lemmas.Grind.{common_steps}
-use Rattle.std.proofs.Common.{◌≡◌, ℕ, ◌+◌, Bool, true, false, cond, List, [], ◌∷◌, ◌++◌, length, Option, Some, None}
-use Rattle.std.proofs.Common.{Result, Ok, Err, refl, sym, ap, ◌∙◌, arith, append_assoc}
 use Rattle.std.specs.Prelude.{◌==◌, codes, bytes_eq, IfOk}
 use Rattle.std.specs.List.{join_with_byte}
 use Rattle.cps_base.specs.Answers.{Gives}
@@ -12,8 +11,8 @@ use Rattle.certificate.specs.declared.fault.CertFault.TheVariants as fault
 use Rattle.certificate.specs.States.{State}
 use Rattle.texts.specs.Parts.{parts}
 use Rattle.certificate.specs.Lines.{claim_in}
-use Rattle.certificate.specs.Reading.{Cert, Body, line_in, lines_in, body_lines, body_behind}
-use Rattle.certificate.specs.Reading.{claim_behind, certificate_by, certificate_of, memory_fault}
+use Rattle.certificate.specs.Reading.{Cert, Body, line_in, lines_in, body_lines, body_behind, claim_behind}
+use Rattle.certificate.specs.Reading.{certificate_by, certificate_of, memory_fault}
 use Rattle.certificate.specs.Spelling.{state_text, landing_text, claim_text, landing_lines, state_lines}
 use Rattle.certificate.specs.Spelling.{certificate_text}
 use Rattle.certificate.proofs.Valid.{bind_ok}

@@ -1,6 +1,6 @@
 -- Ascending lists of windows, and lists that grow by one.
-use Rattle.std.proofs.Common.{◌≡◌, ℕ, ◌+◌, ◌-◌, ◌<◌, ◌≤◌, List, [], ◌∷◌, ◌++◌, inl, inr, refl, subst, sym, arith}
-use Rattle.std.proofs.Common.{false, is_ge}
+use Rattle.std.proofs.Common.{◌≡◌, ℕ, ◌+◌, ◌-◌, ◌<◌, ◌≤◌, List, [], ◌∷◌, ◌++◌, inl, inr, refl, subst, sym, arith, false}
+use Rattle.std.proofs.Common.{is_ge}
 use Rattle.std.specs.Prelude.{ℤ, ◌⊎◌, ◌↔◌, Contains}
 use Rattle.std.specs.List.Sorted.{IsStrictlySortedBy}
 use Rattle.std.proofs.lemmas.List.Elements.{All-contains, All-from_recursion, Contains-append_left, Contains-push}

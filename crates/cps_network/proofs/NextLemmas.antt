@@ -7,8 +7,7 @@ use Rattle.cps_nodes.specs.Laws.{LeadOn}
 use Rattle.cps_nodes.specs.Windows.{IsWindow}
 use Rattle.landing_rules.specs.Problem.{Problem}
 use Rattle.cps_network.specs.declared.groups.Group.{Group}
-use Rattle.cps_network.specs.Extended.{AreGroupsOf, IsGroupOf, IsExtendable, FollowsBy, Follows, HasGrownBy}
-use Rattle.cps_network.specs.Extended.{group_at}
+use Rattle.cps_network.specs.Extended.{AreGroupsOf, IsGroupOf, IsExtendable, FollowsBy, Follows, HasGrownBy, group_at}
 use Rattle.cps_network.specs.Lists.{node_at, AreWindows}
 use Rattle.cps_network.specs.Permits.{IsSuccessor, IsNextOf}
 use Rattle.cps_network.proofs.StageLemmas.{IsSuccessor-alike}

@@ -1,6 +1,5 @@
 -- Tests that are made together.
-use Rattle.std.proofs.Common.{arith}
-use Rattle.std.proofs.Common.{Bool, true, false, Option, Some, None, refl}
+use Rattle.std.proofs.Common.{arith, Bool, true, false, Option, Some, None, refl}
 use Rattle.std.specs.Prelude.{IsTrue, ◌↔◌, ◌&&◌, is_some}
 use Rattle.std.specs.Option.{SomeIff}
 use Rattle.std.proofs.lemmas.Bool.{false≢true}

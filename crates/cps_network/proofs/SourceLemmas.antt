@@ -3,7 +3,7 @@ use Rattle.std.proofs.Common.{rules, ◌≡◌, ℕ, Bool, true, ◌-◌, ◌<�
 use Rattle.std.proofs.Common.{ap, inl, inr, subst}
 use Rattle.std.proofs.lemmas.List.{get_or_default}
 use Rattle.std.specs.Prelude.{ℤ, ◌⊎◌, ◌↔◌, IsTrue}
-use Rattle.std.proofs.lemmas.Bool.Decides.{nat_tests}
+use Rattle.std.proofs.lemmas.Bool.Decides.{nat_tests, Decides-int_eq}
 use Rattle.std.proofs.lemmas.Cmp.{lists_total, int_cmp_total}
 use Rattle.std.specs.declared.cmp.Ordering.{Ordering}
 use Rattle.std.specs.declared.cmp.Ordering.TheVariants.{Less, Equal, Greater}
@@ -14,7 +14,6 @@ use Rattle.std.specs.Cmp.Lexicographic.{slice_cmp, pointwise, lists_ties}
 use Rattle.cps_nodes.specs.WindowOrder.{window_cmp}
 use Rattle.cps_nodes.specs.Leads.{IsBelow, TailMeetsHead}
 use Rattle.std.proofs.lemmas.Slice.Eq.{slice_eq-Decides}
-use Rattle.std.proofs.lemmas.Bool.Decides.{Decides-int_eq}
 use Rattle.cps_network.specs.Lists.{node_at, IsAscending}
 use Rattle.cps_network.specs.Begins.{BeginAt}
 

@@ -1,6 +1,5 @@
 -- Legal prefixes of one stage and window place the same ranks.
-use Rattle.std.proofs.Common.{arith}
-use Rattle.std.proofs.Common.{ℕ, List, sym, ap, subst, ◌∙◌}
+use Rattle.std.proofs.Common.{arith, ℕ, List, sym, ap, subst, ◌∙◌}
 use Rattle.std.specs.Prelude.{◌≡◌, pos}
 use Rattle.cps_nodes.specs.Windows.{IsPlaced}
 use Rattle.cps_theory.specs.RankLists.{In}

@@ -5,9 +5,8 @@ use Rattle.std.specs.Prelude.{Bool, IsTrue, ◌↔◌, ◌⊎◌, ℤ, pos, ◌+
 use Rattle.std.specs.Int.{bit_at, bit_not, w32, w64}
 use Rattle.std.proofs.lemmas.Bool.{cases_eq, cases_lt}
 use Rattle.std.proofs.lemmas.Int.{ints}
-use Rattle.std.proofs.lemmas.Nat.Bits.{bit_at_set_same, bit_at_set_other, bit_at_above, bit_at_cat_low}
-use Rattle.std.proofs.lemmas.Nat.Bits.{bit_at_cat_high, bit_at_and, bit_at_not, bit_at_ones}
-use Rattle.std.proofs.lemmas.Nat.Bits.{bit_at_ones_above, bit_at-lt}
+use Rattle.std.proofs.lemmas.Nat.Bits.{bit_at_set_same, bit_at_set_other, bit_at_above, bit_at_cat_low, bit_at_cat_high}
+use Rattle.std.proofs.lemmas.Nat.Bits.{bit_at_and, bit_at_not, bit_at_ones, bit_at_ones_above, bit_at-lt}
 use Rattle.std.proofs.lemmas.Nat.{field_of}
 use Rattle.std.proofs.Math.Pow.{mod-mod-pow}
 use Rattle.cps_base.specs.Limits.{most_waiting}

@@ -21,8 +21,8 @@ pub record WrotePart (puts : ℕ) (old new : SinkState) (whole last : List ℕ) 
   pub lacked : LacksRoom old (whole ++ last)
   pub counted : CountsPuts (puts + 1) old new
 
--- A put failed. Stands says which text may stand after so many puts, one or more. That of the puts before it stands whole,
--- or there was none.
+-- A put failed. Stands says which text may stand after so many puts, one or more. That of the puts before it stands
+-- whole, or there was none.
 pub record BreaksOff (Stands : ℕ → List ℕ → Type 0) (old new : SinkState) : Type 0 where
   pub puts : ℕ
   pub whole : List ℕ

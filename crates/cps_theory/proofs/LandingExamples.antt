@@ -1,6 +1,6 @@
 -- Examples of landings: lists of ranks, separation, retiming, landing trails and pairs.
-use Rattle.std.proofs.Common.{◌≡◌, ℕ, ◌+◌, ◌-◌, ◌≤◌, inl, inr, List, [], ◌∷◌, false, Option, Some, ltb, max}
-use Rattle.std.proofs.Common.{refl, ap, arith}
+use Rattle.std.proofs.Common.{◌≡◌, ℕ, ◌+◌, ◌-◌, ◌≤◌, inl, inr, List, [], ◌∷◌, false, Option, Some, ltb, max, refl, ap}
+use Rattle.std.proofs.Common.{arith}
 use Rattle.cps_theory.specs.RankLists.{Distinct, In, IsRank, Ordered, above, below, numbers_from, of_rank, upto}
 use Rattle.cps_theory.specs.Separation.{Landing}
 use Rattle.cps_theory.specs.Retiming.{IsFirstOpen, NeverEarlier}

@@ -1,7 +1,7 @@
 -- Examples of networks: what the nodes of two flights attain, and what the start keeps and completes where nobody
 -- waits.
-use Rattle.std.proofs.Common.{max, subst, ◌≤◌, ◌≡◌, ℕ, inl, inr, List, [], ◌∷◌, true, false, Option, Some, leb}
-use Rattle.std.proofs.Common.{zero-le, refl, sym, ap, arith}
+use Rattle.std.proofs.Common.{max, subst, ◌≤◌, ◌≡◌, ℕ, inl, inr, List, [], ◌∷◌, true, false, Option, Some, leb, zero-le}
+use Rattle.std.proofs.Common.{refl, sym, ap, arith}
 use Rattle.std.proofs.lemmas.Bool.{false≢true, leb-true}
 use Rattle.cps_theory.specs.RankLists.{IsRank}
 use Rattle.cps_theory.specs.Labels.{InPairs, Pair}
@@ -12,8 +12,8 @@ use Rattle.cps_theory.specs.Feasible.{Feasible, LandsAllRanks, RankedProblem, ne
 use Rattle.cps_theory.specs.ProblemNetwork.{FindsFirstOpen, IsClosedCertificate, IsObjective, LandedIn}
 use Rattle.cps_theory.specs.CompletingPairs.{Choice, KeptCompleting, LeastChoices, NoEarlierNoDearer, NoGreaterOrder}
 use Rattle.cps_theory.specs.CompletingPairs.{OrderWithinBudget, onto}
-use Rattle.cps_theory.specs.FirstBest.{Ascends, BuiltByNodes, CompletesNode, FirstBest, InLandingOrder}
-use Rattle.cps_theory.specs.FirstBest.{ListsCompleting, ReachedIn}
+use Rattle.cps_theory.specs.FirstBest.{Ascends, BuiltByNodes, CompletesNode, FirstBest, InLandingOrder, ListsCompleting}
+use Rattle.cps_theory.specs.FirstBest.{ReachedIn}
 use Rattle.cps_theory.proofs.NodeExamples.{two}
 use Rattle.cps_theory.proofs.ScheduleExamples.{pair_of_flights, in_rank_order}
 

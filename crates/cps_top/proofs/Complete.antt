@@ -1,14 +1,14 @@
 -- Over good files and with no fault the text is written whole; a folder that is sure has no fault over them.
-use Rattle.std.proofs.Common.{◌≡◌, ◌≢◌, inl, inr, ℕ, ◌-◌, ◌≤◌, List, [], ◌∷◌, ◌++◌, length, take, drop, map, Some}
-use Rattle.std.proofs.Common.{None, Option, IsTrue, ap, sym, ◌∙◌, subst, arith, take-append-drop}
+use Rattle.std.proofs.Common.{◌≡◌, ◌≢◌, inl, inr, ℕ, ◌-◌, ◌≤◌, List, [], ◌∷◌, ◌++◌, length, take, drop, map, Some, None}
+use Rattle.std.proofs.Common.{Option, IsTrue, ap, sym, ◌∙◌, subst, arith, take-append-drop}
 use Rattle.std.specs.List.{AllByRecursion}
 use Rattle.std.proofs.lemmas.Option.{same_Some}
 use Rattle.cps_outside.specs.FolderState.{FolderState}
 use Rattle.cps_top.specs.declared.commands.Command.{Command}
 use Rattle.endings.specs.declared.ending.FilesFault.{FilesFault}
 use Rattle.endings.specs.declared.ending.Ending.{Ending}
-use Rattle.endings.specs.declared.ending.Ending.TheVariants.{Answered, Misused, Refused, NotLoaded, NotWritten}
-use Rattle.endings.specs.declared.ending.Ending.TheVariants.{TooLong, NoMemory}
+use Rattle.endings.specs.declared.ending.Ending.TheVariants.{Answered, Misused, Refused, NotLoaded, NotWritten, TooLong}
+use Rattle.endings.specs.declared.ending.Ending.TheVariants.{NoMemory}
 use Rattle.cps_top.specs.Commands.{command_of, files_of, Refuses}
 use Rattle.endings.specs.Loads.{limit, Loads, FailsAt, IsTooLongAt}
 use Rattle.endings.specs.Lines.{status_of}

@@ -7,8 +7,8 @@ use Rattle.std.specs.List.{AllByRecursion}
 use Rattle.std.proofs.lemmas.Option.{same_Some}
 use Rattle.cps_top.specs.declared.commands.Command.{Command}
 use Rattle.endings.specs.declared.ending.Ending.{Ending}
-use Rattle.endings.specs.declared.ending.Ending.TheVariants.{Answered, Misused, Refused, NotLoaded, NotWritten}
-use Rattle.endings.specs.declared.ending.Ending.TheVariants.{TooLong, NoMemory}
+use Rattle.endings.specs.declared.ending.Ending.TheVariants.{Answered, Misused, Refused, NotLoaded, NotWritten, TooLong}
+use Rattle.endings.specs.declared.ending.Ending.TheVariants.{NoMemory}
 use Rattle.cps_top.specs.Commands.{command_of, files_of}
 use Rattle.cps_outside.specs.FolderState.{FolderState}
 use Rattle.endings.specs.Loads.{limit, FailsAt, FailsWithin}
@@ -106,7 +106,8 @@ exact words old new status (NotLoaded place) is ends = record {
 exact words old new status NotWritten is ends = record {
   refused = λ command contents refusal there refuses.
       let prints = serves_at words old new NotWritten command contents there.named there.tells there.told ends in
-      absurd (excludes_begun command contents (prints.puts + 1) (prints.whole ++ prints.last) refusal prints.begun refuses);
+      absurd (excludes_begun command contents (prints.puts + 1) (prints.whole ++ prints.last) refusal prints.begun
+      refuses);
   too_long = λ command before after name bytes named tells split content longer.
       absurd (none_longer words old new NotWritten command before after name bytes named tells
       split content longer ends);

@@ -1,6 +1,6 @@
 -- No finding exactly where the block is clean.
-use Rattle.std.proofs.Common.{◌≡◌, ◌≢◌, ℕ, suc, ◌⊎◌, inl, inr, List, [], ◌∷◌, length, map, filter}
-use Rattle.std.proofs.Common.{cond, zero-le, arith, refl, sym, ap, ap₂, subst, ◌∙◌}
+use Rattle.std.proofs.Common.{◌≡◌, ◌≢◌, ℕ, suc, ◌⊎◌, inl, inr, List, [], ◌∷◌, length, map, filter, cond, zero-le, arith}
+use Rattle.std.proofs.Common.{refl, sym, ap, ap₂, subst, ◌∙◌}
 use Rattle.std.specs.Prelude.{option_map, find, All, AllPairs, Option, Some, None}
 use Rattle.std.specs.List.{list_any, cons_option}
 use Rattle.std.proofs.lemmas.Bool.{cases_eq, eqb-true, eq-eqb}
@@ -12,9 +12,8 @@ use Rattle.landing_rules.specs.Events.{named, in_landing_order, IsPlanShown}
 use Rattle.landing_rules.specs.Text.{ShownLanding, shown_plan}
 use Rattle.landing_rules.specs.Sound.{IsSound}
 use Rattle.landing_rules.specs.shared.Counting.{Member}
-use Rattle.landing_rules.specs.Audit.{Block, block_of, IsClean, OtherObjective, Value, has_line}
-use Rattle.landing_rules.specs.Audit.{disordered, lines_found, landing_of}
-use Rattle.landing_rules.specs.Audit.{by_rules, or_else, findings}
+use Rattle.landing_rules.specs.Audit.{Block, block_of, IsClean, OtherObjective, Value, has_line, disordered}
+use Rattle.landing_rules.specs.Audit.{lines_found, landing_of, by_rules, or_else, findings}
 use Rattle.cps_theory.specs.RankLists.{In}
 use Rattle.cps_theory.specs.laws.NumberedLists.{in_numbers, numbers_in, distinct_numbers}
 use Rattle.landing_joint.specs.Numbered.{nobody, numbered, second_of, numbers_of}

@@ -1,6 +1,6 @@
 -- No finding by the rules exactly where the landings keep them.
-use Rattle.std.proofs.Common.{◌≡◌, ℕ, ◌≤◌, ◌⊎◌, inl, inr, List, [], ◌∷◌, filter, Bool, true, false, not, ◌||◌}
-use Rattle.std.proofs.Common.{nat_le, nat_lt, nat_eq, refl, sym, subst}
+use Rattle.std.proofs.Common.{◌≡◌, ℕ, ◌≤◌, ◌⊎◌, inl, inr, List, [], ◌∷◌, filter, Bool, true, false, not, ◌||◌, nat_le}
+use Rattle.std.proofs.Common.{nat_lt, nat_eq, refl, sym, subst}
 use Rattle.std.specs.Prelude.{unwrap_or, is_none, flat_map, All, IsTrue, MatchOption, Option, Some, None}
 use Rattle.std.specs.Str.{bytes_eq}
 use Rattle.std.proofs.lemmas.Slice.Eq.{bytes_eq-Decides}
@@ -12,8 +12,7 @@ use Rattle.landing_rules.specs.Rules.{IsPairInPrecedence, IsShiftKept, IsFrozenK
 use Rattle.landing_rules.specs.Testing.{is_pair_separated, is_shift_kept}
 use Rattle.landing_rules.specs.shared.Counting.{Member}
 use Rattle.landing_rules.specs.shared.Tests.{is_pair_separated-Decides, is_shift_kept-Decides}
-use Rattle.landing_rules.specs.Audit.{Precedence, Moved, Early, Shift, for_failing}
-use Rattle.landing_rules.specs.Audit.{are_apart, listed_late, by_rules}
+use Rattle.landing_rules.specs.Audit.{Precedence, Moved, Early, Shift, for_failing, are_apart, listed_late, by_rules}
 use Rattle.landing_joint.specs.shared.OpenDays.{open_in_days}
 use Rattle.landing_joint.proofs.AuditLists.{append_nil, nil_append, broken_none, none_broken, Each, pairs_none}
 use Rattle.landing_joint.proofs.AuditLists.{none_pairs, each_pair, flat_nil, nil_flat, any_member, member_any}

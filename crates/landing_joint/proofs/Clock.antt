@@ -8,8 +8,8 @@ use Rattle.std.specs.Ordering.{is_lt, ordering_then, nat_cmp}
 use Rattle.wake_table.specs.Table.{separation}
 use Rattle.landing_rules.specs.declared.objective.Objective.{Objective}
 use Rattle.landing_rules.specs.declared.objective.Objective.TheVariants.{Makespan, Delay}
-use Rattle.landing_rules.specs.Flights.{Flight, Active, Situation, Schedule, Landing, landing, landings}
-use Rattle.landing_rules.specs.Flights.{waiting, horizon, horizon_after}
+use Rattle.landing_rules.specs.Flights.{Flight, Active, Situation, Schedule, Landing, landing, landings, waiting}
+use Rattle.landing_rules.specs.Flights.{horizon, horizon_after}
 use Rattle.landing_rules.specs.Rules.{last_second, is_open, lists, arrival_cmp, ArePairSeparated, IsPairInPrecedence}
 use Rattle.landing_rules.specs.Rules.{greatest, cost, objective, IsFeasible}
 use Rattle.landing_rules.specs.Events.{Clock, frozen_landings, freezes, after_clock, clock_back, ClockBack}
@@ -24,9 +24,8 @@ use Rattle.landing_joint.specs.Numbered.{nobody, numbered, second_of, numbers_of
 use Rattle.landing_joint.specs.Numbered.{numbered_situation}
 use Rattle.landing_joint.specs.ClockLaws.{ClockKeepsPlanLaw, ClockShowsPlanLaw, ClockKeepsSoundLaw}
 use Rattle.landing_joint.proofs.Numbered.{landing_at, landings_are}
-use Rattle.landing_joint.proofs.Joint.{comes_is, among, all_among, feasible_numbered, numbered_feasible}
-use Rattle.landing_joint.proofs.Joint.{sound_numbered, first_come, some_of, active_are, list_frozen, callsigns_differ}
-use Rattle.landing_joint.proofs.Joint.{passed_low}
+use Rattle.landing_joint.proofs.Joint.{comes_is, among, all_among, feasible_numbered, numbered_feasible, sound_numbered}
+use Rattle.landing_joint.proofs.Joint.{first_come, some_of, active_are, list_frozen, callsigns_differ, passed_low}
 use Rattle.cps_theory.specs.laws.NumberedLists.{count_by_map, count_by_agree, map_map, filter_map_is, at_all}
 use Rattle.cps_theory.specs.laws.NumberedLists.{in_numbers, numbers_in}
 use Rattle.std.proofs.lemmas.List.{length-map, get_or_default}

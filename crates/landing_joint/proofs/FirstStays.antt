@@ -1,7 +1,7 @@
 -- Of the flights that stay when the front of a plan freezes, the first in first-come order: whoever comes before it
 -- freezes, so its own leave to go back bounds how many behind it freeze, and so behind each that stays.
-use Rattle.std.proofs.Common.{◌≡◌, ◌≢◌, ℕ, ◌<◌, ◌≤◌, ◌&&◌, ◌∙◌, inl, inr, List, [], ◌∷◌, Bool, true, false, not}
-use Rattle.std.proofs.Common.{nat_lt, arith, refl, sym, ap}
+use Rattle.std.proofs.Common.{◌≡◌, ◌≢◌, ℕ, ◌<◌, ◌≤◌, ◌&&◌, ◌∙◌, inl, inr, List, [], ◌∷◌, Bool, true, false, not, nat_lt}
+use Rattle.std.proofs.Common.{arith, refl, sym, ap}
 use Rattle.std.proofs.lemmas.Bool.{cases_Bool, cases_eq, cases_lt, ltb-true, lt-ltb, le-ltb, and_parts, and_from}
 use Rattle.std.proofs.lemmas.Bool.{false≢true}
 use Rattle.cps_theory.specs.RankLists.{In}

@@ -9,16 +9,14 @@ use Rattle.cps_base.specs.Limits.{most_flights, most_waiting}
 use Rattle.landing_rules.specs.Flights.{Active, Flight, Landing, Situation, Schedule, Callsign, Span, landing}
 use Rattle.landing_rules.specs.Flights.{is_waiting, waiting}
 use Rattle.landing_rules.specs.Rules.{lists}
-use Rattle.landing_rules.specs.Events.{Estimate, Cancel, Add, named, frozen_landings, refusal}
-use Rattle.landing_rules.specs.Events.{estimated, newcomer, situation_after, Duplicate, TooManyFlights}
-use Rattle.landing_rules.specs.Events.{TooManyWaiting, PredecessorOfFrozen}
+use Rattle.landing_rules.specs.Events.{Estimate, Cancel, Add, named, frozen_landings, refusal, estimated, newcomer}
+use Rattle.landing_rules.specs.Events.{situation_after, Duplicate, TooManyFlights, TooManyWaiting, PredecessorOfFrozen}
 use Rattle.landing_rules.specs.Sound.{IsSound, IsGoodFlight, IsGoodEvent}
-use Rattle.std.proofs.lemmas.List.{length_push}
+use Rattle.std.proofs.lemmas.List.{length_push, length-map}
 use Rattle.landing_joint.specs.shared.Events.{named_waits}
 use Rattle.landing_joint.specs.shared.Members.{Differ, callsigns, differ_of}
 use Rattle.landing_joint.proofs.SoundAgain.{kept, sound_again, each_of, fewer_frozen}
 use Rattle.landing_rules.specs.shared.Counting.{Member}
-use Rattle.std.proofs.lemmas.List.{length-map}
 use Rattle.landing_rules.specs.shared.Members.{map_in, in_filter, filter_in, in_map, in_push, in_frozen, frozen_in}
 use Rattle.landing_rules.specs.shared.Members.{none_found, none_any, fewer_filtered, fewer_twice, fewer_kept}
 

@@ -1,6 +1,6 @@
 -- A flight that stays in line through a run is passed by at most k flights: each kind of event keeps the counts.
-use Rattle.std.proofs.Common.{◌≡◌, ℕ, ◌+◌, ◌≤◌, inl, inr, true, false, length, List, [], ◌∷◌, Option}
-use Rattle.std.proofs.Common.{Some, None, refl, sym, ap, ap₂, subst, ◌∙◌, arith}
+use Rattle.std.proofs.Common.{◌≡◌, ℕ, ◌+◌, ◌≤◌, inl, inr, true, false, length, List, [], ◌∷◌, Option, Some, None, refl}
+use Rattle.std.proofs.Common.{sym, ap, ap₂, subst, ◌∙◌, arith}
 use Rattle.std.specs.Prelude.{All, is_none}
 use Rattle.std.specs.declared.cmp.Ordering.{Ordering}
 use Rattle.std.specs.declared.cmp.Ordering.TheVariants.{Less, Equal, Greater}
@@ -13,16 +13,15 @@ use Rattle.std.proofs.lemmas.Option.{same_Some}
 use Rattle.landing_rules.specs.Flights.{Active, Aerodrome, Callsign, Flight, Schedule, Situation, Span, is_waiting}
 use Rattle.landing_rules.specs.Flights.{waiting}
 use Rattle.landing_rules.specs.Rules.{arrival_cmp, IsFeasible}
-use Rattle.landing_rules.specs.Events.{Event, Estimate, Cancel, Add, Clock, Refusal, State, Step}
-use Rattle.landing_rules.specs.Events.{Answered, Run, estimated, named}
-use Rattle.landing_rules.specs.Events.{refusal, situation_after}
+use Rattle.landing_rules.specs.Events.{Event, Estimate, Cancel, Add, Clock, Refusal, State, Step, Answered, Run}
+use Rattle.landing_rules.specs.Events.{estimated, named, refusal, situation_after}
 use Rattle.landing_rules.specs.Sound.{IsSound, IsSoundState, IsGoodEvent}
 use Rattle.landing_rules.specs.shared.Counting.{cases, Member}
 use Rattle.landing_rules.specs.shared.Ranks.{arrival_total, level-callsign}
-use Rattle.landing_joint.specs.PassedOver.{waiting_flight, waits_in, is_ahead, StaysInLine}
-use Rattle.landing_joint.specs.PassedOver.{StaysInLineThrough, ArePassedAtLeast, passing_by_event, passing_flight}
-use Rattle.landing_joint.specs.PassedOver.{passing_in_step, passing_in_run, StepCountsLaw, FewPassLaw, FewPassLaterLaw}
-use Rattle.landing_joint.specs.PassedOver.{IsFirstInLine, FewPassFirstLaw, FewPassAnyoneLaw}
+use Rattle.landing_joint.specs.PassedOver.{waiting_flight, waits_in, is_ahead, StaysInLine, StaysInLineThrough}
+use Rattle.landing_joint.specs.PassedOver.{ArePassedAtLeast, passing_by_event, passing_flight, passing_in_step}
+use Rattle.landing_joint.specs.PassedOver.{passing_in_run, StepCountsLaw, FewPassLaw, FewPassLaterLaw, IsFirstInLine}
+use Rattle.landing_joint.specs.PassedOver.{FewPassFirstLaw, FewPassAnyoneLaw}
 use Rattle.landing_joint.specs.shared.Events.{aerodrome_stays, named_is}
 use Rattle.landing_joint.specs.shared.Members.{differ_of, one_of_name}
 use Rattle.landing_joint.proofs.FlightSteps.{add_parts, estimate_callsign, estimate_frozen}

@@ -1,7 +1,7 @@
 -- The schedule that joins the frozen landings with a list of seconds by rank, in the rules' words and over
 -- numbers; and that a tight list gives a tight schedule.
-use Rattle.std.proofs.Common.{◌≡◌, ℕ, zero, suc, ◌-◌, ◌≤◌, inl, inr, List, [], ◌∷◌, length, map, filter, cond}
-use Rattle.std.proofs.Common.{count_by, get_or, arith, refl, sym, ap, ap₂, subst, ◌∙◌, zero-le}
+use Rattle.std.proofs.Common.{◌≡◌, ℕ, zero, suc, ◌-◌, ◌≤◌, inl, inr, List, [], ◌∷◌, length, map, filter, cond, count_by}
+use Rattle.std.proofs.Common.{get_or, arith, refl, sym, ap, ap₂, subst, ◌∙◌, zero-le}
 use Rattle.std.specs.Prelude.{Option, Some, None, unwrap_or, is_none}
 use Rattle.std.specs.List.{AllZip}
 use Rattle.std.specs.Ordering.{is_lt}

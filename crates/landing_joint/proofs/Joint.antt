@@ -9,8 +9,7 @@ use Rattle.std.specs.Ordering.{nat_cmp, ordering_then, ordering_reverse, is_lt}
 use Rattle.std.specs.Cmp.{IsTotalOrder}
 use Rattle.std.proofs.lemmas.Cmp.{then_total, on_total, nat_cmp_total, tied_itself}
 use Rattle.std.proofs.lemmas.Map.Lookups.{exact_unsigned}
-use Rattle.landing_rules.specs.Flights.{Active, Situation, Schedule, Landing, landing, landings, waiting}
-use Rattle.landing_rules.specs.Flights.{horizon}
+use Rattle.landing_rules.specs.Flights.{Active, Situation, Schedule, Landing, landing, landings, waiting, horizon}
 use Rattle.landing_rules.specs.Rules.{last_second, is_open, lists, arrival_cmp, waits, rank_among, place}
 use Rattle.landing_rules.specs.Rules.{ArePairSeparated, IsPairInPrecedence, IsShiftKept, IsFrozenKept, IsFeasible}
 use Rattle.landing_rules.specs.Events.{frozen_landings}

@@ -8,9 +8,8 @@ use Rattle.std.proofs.lemmas.List.Sorted.{IsPermutation-swap, IsPermutation-map,
 use Rattle.landing_rules.specs.declared.objective.Objective.{Objective}
 use Rattle.landing_rules.specs.declared.objective.Objective.TheVariants.{Makespan, Delay}
 use Rattle.landing_rules.specs.Flights.{Flight, Situation, Landing, horizon}
-use Rattle.landing_rules.specs.Rules.{last_second, is_open, waits, rank_among, place, greatest}
-use Rattle.landing_rules.specs.Rules.{cost, ArePairSeparated, IsPairInPrecedence, IsShiftKept, IsFrozenKept}
-use Rattle.landing_rules.specs.Rules.{KeepsShift, KeepsRules}
+use Rattle.landing_rules.specs.Rules.{last_second, is_open, waits, rank_among, place, greatest, cost, ArePairSeparated}
+use Rattle.landing_rules.specs.Rules.{IsPairInPrecedence, IsShiftKept, IsFrozenKept, KeepsShift, KeepsRules}
 use Rattle.landing_rules.specs.Events.{insert_landing, in_landing_order}
 use Rattle.landing_rules.specs.shared.Counting.{Member}
 use Rattle.landing_rules.specs.shared.OneList.{one_list}

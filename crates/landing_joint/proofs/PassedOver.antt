@@ -7,8 +7,7 @@ use Rattle.std.proofs.lemmas.Bool.{false≢true, le-ltb}
 use Rattle.std.proofs.lemmas.List.Kept.{AllPairs-filter}
 use Rattle.std.proofs.lemmas.Slice.Eq.{bytes_eq-Decides}
 use Rattle.std.proofs.lemmas.Option.{same_Some}
-use Rattle.landing_rules.specs.Flights.{Active, Callsign, Flight, Schedule, Situation, horizon, landings}
-use Rattle.landing_rules.specs.Flights.{waiting}
+use Rattle.landing_rules.specs.Flights.{Active, Callsign, Flight, Schedule, Situation, horizon, landings, waiting}
 use Rattle.landing_rules.specs.Rules.{arrival_cmp, IsFeasible}
 use Rattle.landing_rules.specs.Events.{Clock, named, situation_after}
 use Rattle.landing_rules.specs.Sound.{IsSound}

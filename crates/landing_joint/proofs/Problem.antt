@@ -1,7 +1,7 @@
 -- The problem of a situation is a problem of the theory, and its feasible lists are the feasible maps.
 use Rattle.std.proofs.Common.{◌≡◌, ℕ, zero, suc, ◌+◌, ◌-◌, ◌*◌, ◌<◌, ◌≤◌, ◌⊎◌, inl, inr, List, [], ◌∷◌, length, get_or}
-use Rattle.std.proofs.Common.{map, filter, cond, Bool, not, ◌&&◌, nat_le, zero-le, le_antisymm, add-one, arith}
-use Rattle.std.proofs.Common.{refl, sym, ap, ap₂, subst, ◌∙◌}
+use Rattle.std.proofs.Common.{map, filter, cond, Bool, not, ◌&&◌, nat_le, zero-le, le_antisymm, add-one, arith, refl}
+use Rattle.std.proofs.Common.{sym, ap, ap₂, subst, ◌∙◌}
 use Rattle.std.specs.Prelude.{filter_map, option_map, unwrap_or, is_none, sum_by, Option, Some, None, IsPermutation}
 use Rattle.std.specs.List.{AllZip, list_any, cons_option, zip}
 use Rattle.std.proofs.lemmas.Bool.{cases_eq, cases_lt, cases_Bool, and_parts, and_from, and_right, not-true}

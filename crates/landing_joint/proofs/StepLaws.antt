@@ -8,9 +8,9 @@ use Rattle.std.proofs.lemmas.Bool.{cases_Bool, cases_lt, le-leb, or_parts, and_p
 use Rattle.cps_base.specs.Limits.{most_closures}
 use Rattle.landing_rules.specs.Flights.{Aerodrome, Landing, Situation, Schedule, Span, is_waiting, horizon}
 use Rattle.landing_rules.specs.Rules.{is_open, is_within, is_shut, ArePairSeparated}
-use Rattle.landing_rules.specs.Events.{Close, Reopen, frozen_landings, refusal, without_first}
-use Rattle.landing_rules.specs.Events.{same_span, situation_after, CoversFrozen, TooManyClosures, Estimate, Cancel, Add}
-use Rattle.landing_rules.specs.Events.{Clock, Answered, IsPlanShown}
+use Rattle.landing_rules.specs.Events.{Close, Reopen, frozen_landings, refusal, without_first, same_span}
+use Rattle.landing_rules.specs.Events.{situation_after, CoversFrozen, TooManyClosures, Estimate, Cancel, Add, Clock}
+use Rattle.landing_rules.specs.Events.{Answered, IsPlanShown}
 use Rattle.landing_rules.specs.Sound.{IsSound, IsSoundState, IsGoodEvent}
 use Rattle.std.proofs.lemmas.List.{length_push}
 use Rattle.landing_joint.specs.shared.Members.{differ_of}

@@ -14,9 +14,8 @@ pub record Prints (puts : ℕ) (P : List ℕ → Type 0) (old new : SinkState) :
   pub admitted : P text
   pub written : Wrote puts old new text
 
--- What a command does that may print the texts that Admits says, with these answers and in so many puts, after the first
--- of which what Stands says stands, and that refuses for the causes of Refuses, with this ending. Into a sink that is
--- sure, a put fails only where there was no room for its text.
+-- What a command does that may print the texts that Admits says, with these answers and in so many puts, after the
+-- first of which what Stands says stands, and that refuses for the causes of Refuses, with this ending.
 abbrev pub FollowsBy : ℕ → (List ℕ → Answer → Type 0) → (ℕ → List ℕ → Type 0) → (FilesFault → Type 0) → SinkState
     → SinkState → Ending → Type 0
 FollowsBy puts Admits Stands Refuses old new (Answered answer) = Prints puts (λ text. Admits text answer) old new

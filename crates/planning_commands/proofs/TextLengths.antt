@@ -23,8 +23,8 @@ use Rattle.replays.specs.Efforts.{ArePlanned, Planned, answer_line, answer_lines
 use Rattle.replays.specs.Efforts.{effort_lines, effort_text, total_line}
 use Rattle.text_bounds.specs.Blocks.{BlockIsBoundedLaw, block_bound}
 use Rattle.text_bounds.specs.Counts.{count_in, event_count}
-use Rattle.text_bounds.specs.Replays.{HasShortName, IsInDays, IsTellable, ReplayIsBoundedLaw, answer_bound}
-use Rattle.text_bounds.specs.Replays.{most_active, replay_bound}
+use Rattle.text_bounds.specs.Replays.{HasShortName, IsInDays, IsTellable, ReplayIsBoundedLaw, answer_bound, most_active}
+use Rattle.text_bounds.specs.Replays.{replay_bound}
 use Rattle.text_bounds.specs.Trials.{TrialIsBoundedLaw}
 use Rattle.text_bounds.specs.shared.Events.{log_named, refusal_short}
 use Rattle.text_bounds.specs.shared.Lengths.{number_short}

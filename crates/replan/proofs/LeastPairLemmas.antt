@@ -14,8 +14,8 @@ use Rattle.makespan_labels.specs.LabelPairs.{label_pairs, column_pairs, pair_if}
 use Rattle.makespan_labels.specs.shared.LabelPairs.{list_of_label}
 use Rattle.replan.specs.Labels.{last_pair}
 use Rattle.replan.specs.shared.LastPairs.{first_least, last_cheapest}
-use Rattle.replan.specs.WindowNodes.{extremes, lesser, told_at, AreLeastOf, AreLeastUpto, HaveLeast}
-use Rattle.replan.specs.WindowNodes.{IsPairAt, WindowNodes}
+use Rattle.replan.specs.WindowNodes.{extremes, lesser, told_at, AreLeastOf, AreLeastUpto, HaveLeast, IsPairAt}
+use Rattle.replan.specs.WindowNodes.{WindowNodes}
 
 -- ---- one window more
 

@@ -1,6 +1,5 @@
 -- What `min_by_key` over the numbers below n picks: std says it of a run of calls.
-use Rattle.std.proofs.Common.{◌≡◌, ℕ, ◌<◌, ◌≤◌, Option, Some, None, true, sym, ap, ◌∙◌, length, get_or}
-use Rattle.std.proofs.Common.{arith, tests}
+use Rattle.std.proofs.Common.{◌≡◌, ℕ, ◌<◌, ◌≤◌, Option, Some, None, true, sym, ap, ◌∙◌, length, get_or, arith, tests}
 use Rattle.std.specs.Prelude.{MatchOption}
 use Rattle.std.specs.declared.ops.Range.{Range}
 use Rattle.std.specs.Fn.{CalledAt}

@@ -1,7 +1,6 @@
 -- What is read of a problem that is held.
 use Rattle.replan.specs.shared.LastPairs.{list_some}
-use Rattle.std.proofs.Common.{◌≡◌, ℕ, ◌-◌, ◌<◌, ◌≤◌, List, length, get_or, Option, Some, sym, subst, ◌∙◌}
-use Rattle.std.proofs.Common.{arith}
+use Rattle.std.proofs.Common.{◌≡◌, ℕ, ◌-◌, ◌<◌, ◌≤◌, List, length, get_or, Option, Some, sym, subst, ◌∙◌, arith}
 use Rattle.landing_rules.specs.Problem.{Problem}
 use Rattle.replan.specs.Held.{HeldProblem, IsHeld}
 use Rattle.replan.specs.Labels.{HoldsPairs}

@@ -1,6 +1,6 @@
 -- An effort goes on by one event, or stops there.
-use Rattle.std.proofs.Common.{◌≡◌, ℕ, ◌+◌, ◌*◌, ◌^◌, ◌<◌, ◌≤◌, List, [], ◌∷◌, ◌++◌, length, Err, inl, inr, refl}
-use Rattle.std.proofs.Common.{sym, ap, subst, ◌∙◌, arith, append_assoc, append-nil, length-append}
+use Rattle.std.proofs.Common.{◌≡◌, ℕ, ◌+◌, ◌*◌, ◌^◌, ◌<◌, ◌≤◌, List, [], ◌∷◌, ◌++◌, length, Err, inl, inr, refl, sym}
+use Rattle.std.proofs.Common.{ap, subst, ◌∙◌, arith, append_assoc, append-nil, length-append}
 use Rattle.std.specs.Prelude.{◌⊎◌, None, Some, Option, MatchOption, ⊤}
 use Rattle.cps_outside.specs.Puts.{Wrote, WrotePart, BreaksOff, StopsShort}
 use Rattle.cps_outside.specs.SinkState.{SinkState}
@@ -22,10 +22,10 @@ use Rattle.situations.specs.Answers.{refusal_of}
 use Rattle.situations.specs.declared.refusal.Refusal as refusals
 use Rattle.situations.specs.declared.refusal.Refusal.TheVariants as refusal
 use Rattle.replan.specs.Bound.{most_steps}
-use Rattle.replays.specs.Efforts.{Planned, TakesSteps, IsPlanned, Plannings, Effort, answers_of, steps_of}
-use Rattle.replays.specs.Efforts.{last_problem, begun_line, answer_line, answer_lines, total_line}
-use Rattle.replays.specs.Ends.{Plans, PlansWith, StepPlans, AllPlan, LinesStand, EventsPlan, EffortStands}
-use Rattle.replays.specs.Ends.{EffortTells, EffortEnds}
+use Rattle.replays.specs.Efforts.{Planned, TakesSteps, IsPlanned, Plannings, Effort, answers_of, steps_of, last_problem}
+use Rattle.replays.specs.Efforts.{begun_line, answer_line, answer_lines, total_line}
+use Rattle.replays.specs.Ends.{Plans, PlansWith, StepPlans, AllPlan, LinesStand, EventsPlan, EffortStands, EffortTells}
+use Rattle.replays.specs.Ends.{EffortEnds}
 use Rattle.replays.proofs.Chains.{answers-push, planned-push, last_problem-push, steps-push, lines-push}
 
 -- what was done of the events, and what is left
@@ -268,7 +268,9 @@ module _ (old : Standing AnyKept) (events : List Event) (opening : ℕ) (of : Is
     whole = [];
     last = begun_line opening;
     stood = inl (refl, refl);
-    begun = subst (EffortStands old.state events 1) (append-nil (begun_line opening)) (counts 0 [] (none_yet 0 [] refl refl));
+    begun =
+        subst (EffortStands old.state events 1) (append-nil (begun_line opening))
+        (counts 0 [] (none_yet 0 [] refl refl));
     written = w;
   }
   stops_at_once stop.NoMemory new from to w = inl w

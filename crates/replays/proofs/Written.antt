@@ -52,7 +52,8 @@ part_after m n old mid new x whole last a b = record {
       let first : old.room ≤ mid.room + length x = a.left sure in
       let short : mid.room < length (whole ++ last) = b.lacked (a.sure ∙ sure) in
       omega (arith, first, short, length-append x whole, length-append whole last, length-append (x ++ whole) last);
-  counted = subst (λ puts. CountsPuts puts old new) (omega arith) (counted_both m (n + 1) old mid new a.counted b.counted);
+  counted =
+      subst (λ puts. CountsPuts puts old new) (omega arith) (counted_both m (n + 1) old mid new a.counted b.counted);
 }
 
 -- the put behind a text that stands failed

@@ -1,6 +1,6 @@
 -- What a replay writes, by runs of the rules.
-use Rattle.std.specs.Prelude.{◌≡◌, ◌⊎◌, ℕ, ◌+◌, List, [], ◌∷◌, ◌++◌, length, Bool, Some, None, is_some}
-use Rattle.std.specs.Prelude.{MatchOption, Result, Ok, Err}
+use Rattle.std.specs.Prelude.{◌≡◌, ◌⊎◌, ℕ, ◌+◌, List, [], ◌∷◌, ◌++◌, length, Bool, Some, None, is_some, MatchOption}
+use Rattle.std.specs.Prelude.{Result, Ok, Err}
 use Rattle.cps_outside.specs.Puts.{Wrote, BreaksOff, StopsShort}
 use Rattle.cps_outside.specs.SinkState.{SinkState}
 use Rattle.landing_rules.specs.Events.{State, Event, Answered, Run}
@@ -31,8 +31,8 @@ pub record RunTells (old : State) (events : List Event) (new : State) (from to :
   pub last : new ≡ last_state old answers
   pub written : Wrote (1 + length events) from to (replay_text old answers)
 
--- What stands of a replay of these events after so many puts: the text of a run over the first of them, the opening plan
--- in one put and each answer in one.
+-- What stands of a replay of these events after so many puts: the text of a run over the first of them, the opening
+-- plan in one put and each answer in one.
 pub record ReplayStands (old : State) (events : List Event) (puts : ℕ) (text : Bytes) : Type 0 where
   pub done : List Event
   pub rest : List Event

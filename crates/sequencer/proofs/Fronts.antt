@@ -1,12 +1,12 @@
 -- The frozen landings stand first in landing order, the waiting ones behind them; and what an event freezes, it freezes
 -- where the plan shown lands it.
-use Rattle.std.specs.Prelude.{◌≢◌}
+use Rattle.std.specs.Prelude.{◌≢◌, All, MatchOption, option_map, is_none, nat_lt, slice_get, unwrap_or}
 use Rattle.std.proofs.lemmas.List.Kept.{AllPairs-cons}
-use Rattle.landing_rules.specs.shared.Members.{all_from}
+use Rattle.landing_rules.specs.shared.Members.{all_from, all_at, cases_option, in_filter, in_frozen, in_map}
+use Rattle.landing_rules.specs.shared.Members.{member_contains, member_permutation}
 use Rattle.std.proofs.Common.{◌≡◌, ℕ, zero, suc, ◌+◌, ◌<◌, ◌≤◌, Bool, true, false, cond, not, List, [], ◌∷◌, ◌++◌}
 use Rattle.std.proofs.Common.{length, get_or, map, filter, take, Option, Some, None, inl, inr, ◌⊎◌, refl, sym, ap, ap₂}
 use Rattle.std.proofs.Common.{◌∙◌, arith}
-use Rattle.std.specs.Prelude.{All, MatchOption, option_map, is_none, nat_lt, slice_get, unwrap_or}
 use Rattle.std.specs.List.{cons_option}
 use Rattle.std.specs.List.Sorted.{IsPermutation}
 use Rattle.std.proofs.lemmas.Bool.{cases_Bool, false≢true}
@@ -22,15 +22,13 @@ use Rattle.wake_table.specs.Table.{separation}
 use Rattle.landing_rules.specs.Flights.{Active, Aerodrome, Callsign, Landing, Schedule, Situation, Span, horizon}
 use Rattle.landing_rules.specs.Flights.{is_waiting, landing, landings, waiting}
 use Rattle.landing_rules.specs.Rules.{IsFeasible, IsFrozenKept, waits}
-use Rattle.landing_rules.specs.Events.{Event, Estimate, Cancel, Add, Clock, after_clock}
-use Rattle.landing_rules.specs.Events.{estimated, freezes, frozen_landings, in_landing_order, insert_landing, named}
-use Rattle.landing_rules.specs.Events.{newcomer, refusal, situation_after}
+use Rattle.landing_rules.specs.Events.{Event, Estimate, Cancel, Add, Clock, after_clock, estimated, freezes}
+use Rattle.landing_rules.specs.Events.{frozen_landings, in_landing_order, insert_landing, named, newcomer, refusal}
+use Rattle.landing_rules.specs.Events.{situation_after}
 use Rattle.landing_rules.specs.Problem.{by_rank, joined, joined_second}
 use Rattle.landing_rules.specs.Sound.{IsSound}
 use Rattle.landing_rules.specs.Text.{ShownLanding, shown_landing, shown_plan}
 use Rattle.landing_rules.specs.shared.Counting.{Member}
-use Rattle.landing_rules.specs.shared.Members.{all_at, cases_option, in_filter, in_frozen, in_map}
-use Rattle.landing_rules.specs.shared.Members.{member_contains, member_permutation}
 use Rattle.landing_joint.specs.ClockLaws.{ClockKeepsPlanLaw}
 use Rattle.landing_joint.specs.Numbered.{nobody}
 use Rattle.landing_joint.specs.shared.Events.{named_waits}

@@ -1,6 +1,5 @@
 -- The test of two callsigns, and what it tells.
-use Rattle.std.proofs.Common.{rules}
-use Rattle.std.proofs.Common.{◌≡◌, ℕ, true, List}
+use Rattle.std.proofs.Common.{rules, ◌≡◌, ℕ, true, List}
 use Rattle.std.specs.Str.{bytes_eq}
 
 pub bytes_eq-refl : (c : List ℕ) → bytes_eq c c ≡ true

@@ -1,8 +1,7 @@
 -- What a change that was made shows: the situation after its event, and the one before it.
-use Rattle.std.proofs.Common.{rules}
-use Rattle.std.proofs.lemmas.Grind.{common_steps}
-use Rattle.std.proofs.Common.{◌≡◌, ℕ, ◌-◌, true, not, List, length, map, filter, slice_get, Option, Some, Vec}
+use Rattle.std.proofs.Common.{rules, ◌≡◌, ℕ, ◌-◌, true, not, List, length, map, filter, slice_get, Option, Some, Vec}
 use Rattle.std.proofs.Common.{Global, sym, ap, ◌∙◌, arith}
+use Rattle.std.proofs.lemmas.Grind.{common_steps}
 use Rattle.std.specs.Prelude.{find}
 use Rattle.std.specs.List.{IsDistinct}
 use Rattle.std.specs.Map.{keys_of, values_of}
@@ -17,8 +16,8 @@ use Rattle.situations.specs.Changes.{IsClock, IsOf, counts_of}
 use Rattle.situations.specs.Seen.{AreApart, situation_of}
 use Rattle.situations.proofs.Freezing.{waiting_back}
 use Rattle.situations.proofs.Named.{own_count}
-use Rattle.situations.proofs.Keyed.{Entry, Keyed, estimated_back, keyed_apart, moved_back, moved_long}
-use Rattle.situations.proofs.Keyed.{one_gone, values_moved}
+use Rattle.situations.proofs.Keyed.{Entry, Keyed, estimated_back, keyed_apart, moved_back, moved_long, one_gone}
+use Rattle.situations.proofs.Keyed.{values_moved}
 
 pub estimated_is : (s now : Situation) (c : Callsign) (eta : ℕ) (windows : List Span) (eta' : ℕ)
     (windows' : List Span) (a : Active) → AreApart s.active → find (named c) s.active ≡ Some a →

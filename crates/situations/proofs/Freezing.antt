@@ -1,10 +1,8 @@
 -- Freezing one flight after another freezes each.
-use Rattle.std.proofs.Common.{rules}
+use Rattle.std.proofs.Common.{rules, ◌≡◌, ℕ, zero, suc, ◌+◌, ◌<◌, Bool, true, false, cond, ◌&&◌, List, [], ◌∷◌, ◌++◌}
+use Rattle.std.proofs.Common.{length, map, set, take, Option, Some, None, get_or, refl, ap, ap₂, ◌∙◌, arith}
 use Rattle.std.proofs.lemmas.Grind.{common_steps}
-use Rattle.std.proofs.Common.{◌≡◌, ℕ, zero, suc, ◌+◌, ◌<◌, Bool, true, false, cond, ◌&&◌, List, [], ◌∷◌, ◌++◌, length}
-use Rattle.std.proofs.Common.{map, set, take, Option, Some, None, get_or, refl, ap, ap₂, ◌∙◌, arith}
-use Rattle.std.specs.Prelude.{nat_lt, zip}
-use Rattle.std.specs.Prelude.{is_none, count_by, filter}
+use Rattle.std.specs.Prelude.{nat_lt, zip, is_none, count_by, filter}
 use Rattle.landing_rules.specs.Flights.{Callsign, Flight, Active, Aerodrome, Landing, landing, landings}
 use Rattle.landing_rules.specs.Events.{after_clock, look_up, passed_after, freezes}
 use Rattle.situations.specs.Freezes.{arrival, arrival_if, freezing, count_after, frozen_one, IsFreezeOf}

@@ -1,8 +1,7 @@
 -- What is changed by a list of callsigns, one entry after another.
-use Rattle.std.proofs.Common.{rules}
+use Rattle.std.proofs.Common.{rules, ◌≡◌, ℕ, ◌<◌, Bool, true, false, cond, List, [], ◌∷◌, map, length, get_or, Option}
+use Rattle.std.proofs.Common.{Some, None, refl, ap, ◌∙◌, arith, zero, suc, drop, ◌-◌, ◌≤◌}
 use Rattle.std.proofs.lemmas.Grind.{common_steps}
-use Rattle.std.proofs.Common.{◌≡◌, ℕ, ◌<◌, Bool, true, false, cond, List, [], ◌∷◌, map, length, get_or, Option, Some}
-use Rattle.std.proofs.Common.{None, refl, ap, ◌∙◌, arith, zero, suc, drop, ◌-◌, ◌≤◌}
 use Rattle.std.proofs.Math.Seq.{drop-length}
 use Rattle.std.proofs.lemmas.List.{drop_more}
 use Rattle.std.specs.Prelude.{filter}

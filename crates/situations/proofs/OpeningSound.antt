@@ -1,9 +1,7 @@
 -- What opens is a sound situation.
-use Rattle.std.proofs.Common.{rules}
+use Rattle.std.proofs.Common.{rules, ◌≡◌, ◌≢◌, ℕ, ◌+◌, ◌<◌, ◌≤◌, inl, inr, Bool, true, false, cond, List, [], ◌∷◌}
+use Rattle.std.proofs.Common.{length, map, filter, Option, Some, None, zero, suc, refl, sym, ap, subst, ◌∙◌, arith, leb}
 use Rattle.std.proofs.lemmas.Grind.{common_steps}
-use Rattle.std.proofs.Common.{◌≡◌, ◌≢◌, ℕ, ◌+◌, ◌<◌, ◌≤◌, inl, inr, Bool, true, false, cond, List, [], ◌∷◌}
-use Rattle.std.proofs.Common.{length, map, filter, Option, Some, None, zero, suc, refl, sym, ap, subst, ◌∙◌}
-use Rattle.std.proofs.Common.{arith, leb}
 use Rattle.std.specs.Prelude.{All, AllPairs, IsTrue, find, option_map, unwrap_or, is_none}
 use Rattle.std.specs.List.{list_any}
 use Rattle.std.specs.Option.{option_or}
@@ -31,9 +29,9 @@ use Rattle.arrivals.specs.Seen.{flight_of}
 use Rattle.situations.specs.declared.opening_refusal.OpeningFault.{OpeningFault}
 use Rattle.situations.specs.declared.opening_refusal.OpeningFault.TheVariants as fault
 use Rattle.situations.specs.Opened.{opened, opening_of, CanOpen, HasRanges, IsKept}
-use Rattle.situations.specs.Refused.{unless, first_from, too_many_waiting}
-use Rattle.situations.specs.Refused.{opening_fault, name_fault, given_landing, given, closed_at, clash_at, clash_from}
-use Rattle.situations.specs.Refused.{is_not_before, late_at, rule_fault, AreKept, OpeningLaw, PlainLaw}
+use Rattle.situations.specs.Refused.{unless, first_from, too_many_waiting, opening_fault, name_fault, given_landing}
+use Rattle.situations.specs.Refused.{given, closed_at, clash_at, clash_from, is_not_before, late_at, rule_fault}
+use Rattle.situations.specs.Refused.{AreKept, OpeningLaw, PlainLaw}
 use Rattle.situations.proofs.Apart.{opened_apart}
 
 -- ---- what it means that no fault is found

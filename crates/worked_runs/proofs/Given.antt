@@ -23,7 +23,12 @@ printed : (command : Command) (contents : List (List ℕ)) (files : List (String
     × Admits command contents new.out.written answer)
 printed command contents files room status new (inl short) = inl short
 printed command contents files room status new (inr p) =
-    inr (p.0, p.1, subst (λ (text : List ℕ). Admits command contents text p.0) (sym (p.2.written.grew refl)) p.2.admitted)
+    inr (
+      p.0,
+      p.1,
+      subst (λ (text : List ℕ). Admits command contents text p.0) (sym (p.2.written.grew refl))
+          p.2.admitted,
+    )
 
 answers : (words : List (List ℕ)) (files : List (String Global × Vec ℕ Global)) (room status : ℕ) (new : Outside) →
     IsSure words (given files room) new status → Answers words files room status new.out.written

@@ -1,7 +1,5 @@
 -- What keeps the pairs of each node, as the entries of windows do, makes the states that leave nothing out.
-use Rattle.std.proofs.Common.{rules}
-use Rattle.std.proofs.Common.{◌≡◌, ◌≤◌, inl, true, List, [], ◌∷◌, length, get_or, refl}
-use Rattle.std.proofs.Common.{arith}
+use Rattle.std.proofs.Common.{rules, ◌≡◌, ◌≤◌, inl, true, List, [], ◌∷◌, length, get_or, refl, arith}
 use Rattle.std.specs.Prelude.{All}
 use Rattle.std.proofs.lemmas.Bool.{and_parts, ltb-true}
 use Rattle.landing_rules.specs.Problem.{Problem}

@@ -1,7 +1,6 @@
 -- The landings of a certificate with one more, how long a pattern is, and how great its number.
-use Rattle.std.proofs.Common.{rules}
-use Rattle.std.proofs.Common.{◌≡◌, ℕ, zero, suc, ◌*◌, ◌<◌, ◌≤◌, ◌^◌, Bool, true, false, List, [], ◌∷◌, ◌++◌, length}
-use Rattle.std.proofs.Common.{refl, arith}
+use Rattle.std.proofs.Common.{rules, ◌≡◌, ℕ, zero, suc, ◌*◌, ◌<◌, ◌≤◌, ◌^◌, Bool, true, false, List, [], ◌∷◌, ◌++◌}
+use Rattle.std.proofs.Common.{length, refl, arith}
 use Rattle.cps_base.specs.Text.{is_callsign}
 use Rattle.certificate.specs.Patterns.{is_pattern_length, number_of}
 use Rattle.certificate.specs.Reading.{AreLandings}

@@ -8,8 +8,8 @@ use Rattle.cps_theory.specs.Labels.{InPairs, NoWorse, Pair, next_pair, no_worse}
 use Rattle.cps_theory.specs.LegalPrefix.{OrderRules}
 use Rattle.cps_theory.specs.Patterns.{PatternNode, PatternPermits, pattern_newest, pattern_node, pattern_push}
 use Rattle.cps_theory.specs.ClosedSets.{ClosedNodes}
-use Rattle.cps_theory.specs.CertificateClosure.{IsListed, IsListedOrStart, covers, first_missed}
-use Rattle.cps_theory.specs.CertificateClosure.{is_not_covered, missed_from, node_cmp}
+use Rattle.cps_theory.specs.CertificateClosure.{IsListed, IsListedOrStart, covers, first_missed, is_not_covered}
+use Rattle.cps_theory.specs.CertificateClosure.{missed_from, node_cmp}
 use Rattle.cps_theory.specs.laws.FirstFound.{from_none, or_none, with_number_none}
 use Rattle.cps_theory.specs.laws.NodeOrder.{node_tie, eq_of}
 use Rattle.cps_theory.specs.laws.PatternTests.{permits_is}

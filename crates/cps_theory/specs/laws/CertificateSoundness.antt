@@ -9,8 +9,7 @@ use Rattle.cps_theory.specs.Retiming.{IsFirstOpen}
 use Rattle.cps_theory.specs.Labels.{InPairs, NeverCheaper, NoWorse, Pair}
 use Rattle.cps_theory.specs.Patterns.{PatternNode, pattern_node}
 use Rattle.cps_theory.specs.FirstFound.{element_from}
-use Rattle.cps_theory.specs.CertificateClosure.{IsListed, first_missed, is_final, is_final_below}
-use Rattle.cps_theory.specs.CertificateClosure.{missed_from}
+use Rattle.cps_theory.specs.CertificateClosure.{IsListed, first_missed, is_final, is_final_below, missed_from}
 use Rattle.cps_theory.specs.Feasible.{Feasible, RankedProblem, SoundProblem, next_from, second_and_cost}
 use Rattle.cps_theory.specs.laws.CertificateClosure.{closure_closed}
 use Rattle.cps_theory.specs.laws.LeastObjective.{closed_certificate_optimal, closed_certificate_infeasible}

@@ -1,6 +1,6 @@
 -- There is at most one first best schedule, and least choices build it, whatever the objective.
-use Rattle.std.proofs.Common.{◌≡◌, ◌≢◌, ℕ, ◌≤◌, List, [], ◌∷◌, length, Option, Some, true, arith, refl, sym, ap}
-use Rattle.std.proofs.Common.{subst, ◌∙◌, le_trans}
+use Rattle.std.proofs.Common.{◌≡◌, ◌≢◌, ℕ, ◌≤◌, List, [], ◌∷◌, length, Option, Some, true, arith, refl, sym, ap, subst}
+use Rattle.std.proofs.Common.{◌∙◌, le_trans}
 use Rattle.cps_theory.specs.RankLists.{IsRank}
 use Rattle.cps_theory.specs.Separation.{Landing}
 use Rattle.cps_theory.specs.Retiming.{IsFirstOpen}

@@ -1,7 +1,6 @@
 -- Early prefixes stay legal, and land at the same seconds, where two problems agree on the low ranks; stages that do
 -- not count.
-use Rattle.std.proofs.Common.{◌≡◌, ℕ, ◌+◌, ◌<◌, ◌≤◌, false, inl, inr, List, [], ◌∷◌, length, arith}
-use Rattle.std.proofs.Common.{refl, ap, ap₂}
+use Rattle.std.proofs.Common.{◌≡◌, ℕ, ◌+◌, ◌<◌, ◌≤◌, false, inl, inr, List, [], ◌∷◌, length, arith, refl, ap, ap₂}
 use Rattle.std.specs.List.{AllByRecursion}
 use Rattle.std.proofs.lemmas.Bool.{cases_lt, leb-false, ltb-false, or_parts}
 use Rattle.cps_theory.specs.RankLists.{In}

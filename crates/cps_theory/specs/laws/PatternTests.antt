@@ -1,6 +1,5 @@
 -- What may come next at a node passes the test of the checker.
-use Rattle.std.proofs.Common.{◌≡◌, ℕ, suc, ◌-◌, ◌≤◌, inl, inr, Bool, true, false, not, ◌&&◌, eqb}
-use Rattle.std.proofs.Common.{refl, ap, arith}
+use Rattle.std.proofs.Common.{◌≡◌, ℕ, suc, ◌-◌, ◌≤◌, inl, inr, Bool, true, false, not, ◌&&◌, eqb, refl, ap, arith}
 use Rattle.std.specs.Prelude.{is_none}
 use Rattle.std.proofs.lemmas.Bool.{cases_lt, le-leb, leb-true, eq-eqb, or_cases, or_left, or_right, and_from}
 use Rattle.cps_theory.specs.RankLists.{above, below}

@@ -5,8 +5,8 @@ use Rattle.std.proofs.lemmas.Bool.{cases_Bool, ltb-true, lt-ltb, le-ltb, le-leb,
 use Rattle.cps_theory.specs.RankLists.{Distinct, In}
 use Rattle.cps_theory.specs.Freeze.{FirstCome, KeepsCountedShift, frozen_of, overtook, staying_of}
 use Rattle.cps_theory.specs.laws.Members.{distinct_filter, in_filter}
-use Rattle.cps_theory.specs.laws.RankCounts.{count_map, count_parts, count_split, count_stricter}
-use Rattle.cps_theory.specs.laws.RankCounts.{count_weaker, count, count_is, count_between}
+use Rattle.cps_theory.specs.laws.RankCounts.{count_map, count_parts, count_split, count_stricter, count_weaker, count}
+use Rattle.cps_theory.specs.laws.RankCounts.{count_is, count_between}
 
 pub not_before_itself : (comes_before : ℕ → ℕ → Bool) → FirstCome comes_before → (f : ℕ) → comes_before f f ≡ false
 not_before_itself comes_before order f = elim (cases_Bool _) [ inl e ↦ order.one_way f f e | inr e ↦ e ]

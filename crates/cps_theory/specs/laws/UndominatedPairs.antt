@@ -1,6 +1,5 @@
 -- Dropping pairs that another is no worse than leaves one no later and no dearer for each.
-use Rattle.std.proofs.Common.{◌≡◌, ◌⊎◌, inl, inr, List, [], ◌∷◌, Bool, true, false, cond, leb, refl}
-use Rattle.std.proofs.Common.{le_refl}
+use Rattle.std.proofs.Common.{◌≡◌, ◌⊎◌, inl, inr, List, [], ◌∷◌, Bool, true, false, cond, leb, refl, le_refl}
 use Rattle.std.proofs.lemmas.Bool.{and_parts, leb-true, false≢true}
 use Rattle.cps_theory.specs.Labels.{InPairs, NoWorse, Pair, no_worse}
 use Rattle.cps_theory.specs.UndominatedPairs.{Covers, add_pair, some_no_worse, without}

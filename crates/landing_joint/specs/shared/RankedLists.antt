@@ -1,6 +1,6 @@
 -- Lists of seconds by rank and maps from ranks to seconds: what is feasible, and what the theory asks of a problem.
-use Rattle.std.proofs.Common.{◌≡◌, ◌≢◌, ℕ, zero, suc, ◌+◌, ◌<◌, ◌≤◌, length, map, true, nat_lt, count_by}
-use Rattle.std.proofs.Common.{zero-le, add-one, arith, sym, ap, ap₂, subst, ◌∙◌}
+use Rattle.std.proofs.Common.{◌≡◌, ◌≢◌, ℕ, zero, suc, ◌+◌, ◌<◌, ◌≤◌, length, map, true, nat_lt, count_by, zero-le}
+use Rattle.std.proofs.Common.{add-one, arith, sym, ap, ap₂, subst, ◌∙◌}
 use Rattle.std.specs.Prelude.{IsTrue, MatchOption, Option, Some, None, slice_index, ⊤}
 use Rattle.std.specs.List.{list_any}
 use Rattle.std.proofs.lemmas.List.Sorted.{sum_by-IsPermutation}

@@ -20,10 +20,9 @@ use Rattle.cert_check.specs.declared.verdict.Reason.TheVariants.{Closed, Early, 
 use Rattle.cert_check.specs.declared.verdict.Reason.TheVariants.{Shape, Shift, Successor, Value}
 use Rattle.cert_check.specs.declared.verdict.Verdict.{Verdict}
 use Rattle.cert_check.specs.declared.verdict.Verdict.TheVariants as verdict
-use Rattle.cert_check.specs.Landings.{Landings, are_not_flights, count, first_out_of_order, first_too_close}
-use Rattle.cert_check.specs.Landings.{second_of, seconds}
-use Rattle.cert_check.specs.States.{final_failure, missed_from}
-use Rattle.cert_check.specs.States.{successor_failure}
+use Rattle.cert_check.specs.Landings.{Landings, are_not_flights, count, first_out_of_order, first_too_close, second_of}
+use Rattle.cert_check.specs.Landings.{seconds}
+use Rattle.cert_check.specs.States.{final_failure, missed_from, successor_failure}
 use Rattle.cert_check.specs.Verdict.{claim_reason, failure, flights_reason, landing_reason, state_reason, value_reason}
 use Rattle.cert_check.specs.Verdict.{verdict_by, verdict_of, with_pair}
 use Rattle.cert_check.specs.shared.Values.{objective_low}

@@ -6,8 +6,8 @@ use Rattle.std.proofs.lemmas.List.Elements.{All-head, All-tail}
 use Rattle.std.proofs.lemmas.List.Sums.{count_by-le-length, length-filter}
 use Rattle.landing_rules.specs.Flights.{Active, Situation, Schedule, landings}
 use Rattle.cps_base.specs.Limits.{most_flights}
-use Rattle.landing_rules.specs.Events.{Add, Answered, Cancel, Clock, Estimate, Event, Refusal, Run}
-use Rattle.landing_rules.specs.Events.{State, Step, active_after_clock, after_clock, estimated, named, situation_after}
+use Rattle.landing_rules.specs.Events.{Add, Answered, Cancel, Clock, Estimate, Event, Refusal, Run, State, Step}
+use Rattle.landing_rules.specs.Events.{active_after_clock, after_clock, estimated, named, situation_after}
 use Rattle.landing_rules.specs.Sound.{IsGoodEvent, IsSoundState}
 use Rattle.landing_rules.specs.Text.{accepted_words, answer_text, answers_text, begun_text, cause, line, lines_text}
 use Rattle.landing_rules.specs.Text.{plan_lines, refused_words}

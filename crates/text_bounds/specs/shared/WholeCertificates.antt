@@ -1,7 +1,6 @@
 -- How long a certificate is that leaves nothing out: by its landings, its states and their pairs.
-use Rattle.std.proofs.Common.{◌≡◌, ℕ, zero, suc, ◌≤◌, inl, inr, List, [], ◌∷◌, length, true, refl, sym, ap}
-use Rattle.std.proofs.Common.{◌∙◌, arith}
-use Rattle.std.specs.Prelude.{All, not}
+use Rattle.std.proofs.Common.{◌≡◌, ℕ, zero, suc, ◌≤◌, inl, inr, List, [], ◌∷◌, length, true, refl, sym, ap, ◌∙◌, arith}
+use Rattle.std.specs.Prelude.{All, not, IsPermutation}
 use Rattle.std.specs.List.{AllZip, list_any}
 use Rattle.std.proofs.Math.Nat.{mul-le-mul_right}
 use Rattle.std.proofs.lemmas.Bool.{and_parts, cases_lt}
@@ -16,7 +15,6 @@ use Rattle.landing_rules.specs.Rules.{is_shut, is_within}
 use Rattle.landing_rules.specs.Problem.{IsWaitingOf, Problem, Waiting, by_rank, insert_by_rank}
 use Rattle.landing_rules.specs.Sound.{IsSound}
 use Rattle.landing_rules.specs.shared.Members.{all_at, all_from, member_permutation}
-use Rattle.std.specs.Prelude.{IsPermutation}
 use Rattle.std.proofs.lemmas.List.Sorted.{IsPermutation-sym}
 use Rattle.landing_joint.specs.shared.Insertion.{sort_moves}
 use Rattle.landing_joint.specs.RankedProblem.{no_waiting}

@@ -1,6 +1,5 @@
 -- The state that is found is the only one of the node; where none is found, there is none.
-use Rattle.std.proofs.Common.{rules}
-use Rattle.std.proofs.Common.{arith}
+use Rattle.std.proofs.Common.{rules, arith}
 use Rattle.cps_theory.specs.laws.NodeOrder.{none_covers, found_covers, non_decreasing}
 use Rattle.cert_check.specs.Seen.{seen}
 use Rattle.cert_check.specs.States.{node_of, pairs_of}

@@ -1,6 +1,5 @@
 -- By what an accepted certificate means.
-use Rattle.std.proofs.Common.{rules}
-use Rattle.std.proofs.Common.{sym, ◌∙◌}
+use Rattle.std.proofs.Common.{rules, sym, ◌∙◌}
 use Rattle.cert_check.proofs.Accepted.{judged_optimal, judged_infeasible}
 use Rattle.cert_check.proofs.judging.judge.Goals as goal
 

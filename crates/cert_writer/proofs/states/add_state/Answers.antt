@@ -4,14 +4,13 @@ use Rattle.std.specs.Prelude.{All, Bool}
 use Rattle.std.proofs.lemmas.Bool.Decides.{nat_tests}
 use Rattle.landing_rules.specs.Problem.{Problem}
 use Rattle.cps_theory.specs.Labels.{InPairs, Pair}
-use Rattle.certificate.specs.Patterns.{bits}
+use Rattle.certificate.specs.Patterns.{bits, number_of}
 use Rattle.certificate.specs.States.{State, IsState}
 use Rattle.cert_writer.specs.StageEntries.{IsEntryOf}
 use Rattle.replan.specs.Held.{HeldProblem}
 use Rattle.replan.specs.Kept.{held_of}
 use Rattle.replan.specs.Readers.{stage_in, lists_in}
 use Rattle.cert_writer.specs.Gathered.{HasBetter, HasOnly, IsPairInRange}
-use Rattle.certificate.specs.Patterns.{number_of}
 use Rattle.cert_writer.specs.Written.{AreWrittenBelow, IsGathered}
 use Rattle.cert_writer.proofs.WriteLemmas.{AreBestAt, stage_held, slot_within, slot_is, found_in, covers_in, none_best}
 use Rattle.cert_writer.proofs.WriteLemmas.{last_known, written_in_form, written_more}

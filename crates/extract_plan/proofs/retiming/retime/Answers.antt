@@ -1,5 +1,4 @@
-use Rattle.std.proofs.Common.{◌≡◌, ◌-◌, Some, length, get_or, take, reverse, arith, sym, ap}
-use Rattle.std.proofs.Common.{◌∙◌}
+use Rattle.std.proofs.Common.{◌≡◌, ◌-◌, Some, length, get_or, take, reverse, arith, sym, ap, ◌∙◌}
 use Rattle.std.proofs.Math.ListN.{set, length-set}
 use Rattle.cps_theory.specs.LandingTrail.{latest_landing}
 use Rattle.cps_theory.specs.Feasible.{earliest, next_from, at_seconds}

@@ -1,7 +1,6 @@
-use Rattle.std.proofs.Common.{ℕ, ◌≤◌}
+use Rattle.std.proofs.Common.{ℕ, ◌≤◌, length, ap, ◌∙◌, arith}
 use Rattle.landing_joint.specs.CompletingPairs.{CanChoose, IsCompletingPair}
 use Rattle.first_best.proofs.choice.first_schedule.Goals.{After-least_choice-rank}
-use Rattle.std.proofs.Common.{ℕ, length, ap, ◌∙◌, arith}
 use Rattle.std.specs.Prelude.{replicate}
 use Rattle.std.proofs.lemmas.List.{length-replicate}
 use Rattle.first_best.proofs.ChoiceLemmas.{chosen_by, no_order, one_landing, whole_order}

@@ -1,6 +1,5 @@
 use Rattle.replan.specs.shared.Pushed.{each_upto}
-use Rattle.std.proofs.Common.{◌≡◌, ◌+◌, ◌++◌, [], ◌∷◌, length, ap, ◌∙◌}
-use Rattle.std.proofs.Common.{length-append}
+use Rattle.std.proofs.Common.{◌≡◌, ◌+◌, ◌++◌, [], ◌∷◌, length, ap, ◌∙◌, length-append}
 use Rattle.first_best.specs.Nodes.{node_at}
 use Rattle.first_best.specs.Completing.{ArePairsOf}
 use Rattle.first_best.proofs.complete.complete.Goals as goal

@@ -1,10 +1,9 @@
-use Rattle.sequencer.proofs.Joined.{placed_count}
+use Rattle.sequencer.proofs.Joined.{placed_count, joined_more, placed_at}
 use Rattle.std.proofs.Common.{◌≡◌, ℕ, ◌+◌, ◌-◌, ◌≤◌, length, get_or, slice_set, take, ap, ◌∙◌, arith}
 use Rattle.std.proofs.lemmas.List.{length-map, take_all}
 use Rattle.std.proofs.lemmas.Option.{slice_get_within}
 use Rattle.landing_rules.specs.Problem.{joined}
 use Rattle.landing_joint.specs.Numbered.{nobody}
-use Rattle.sequencer.proofs.Joined.{joined_more, placed_at}
 use Rattle.sequencer.proofs.seconds.joined_seconds.Goals as goal
 
 pub overflow_cast-index : goal.overflow_cast-index

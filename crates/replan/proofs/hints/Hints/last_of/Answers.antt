@@ -1,5 +1,4 @@
-use Rattle.std.proofs.Common.{◌≡◌, ◌+◌, ◌-◌, ◌<◌, [], ◌∷◌, true, length, length-append, ap}
-use Rattle.std.proofs.Common.{arith, ◌∙◌}
+use Rattle.std.proofs.Common.{◌≡◌, ◌+◌, ◌-◌, ◌<◌, [], ◌∷◌, true, length, length-append, ap, arith, ◌∙◌}
 use Rattle.replan.specs.Stages.{HintedStage, hinted_at}
 use Rattle.replan.proofs.HintLemmas.{first_ahead, last_ahead, one_ahead, read_hinted}
 use Rattle.replan.proofs.hints.Hints.last_of.Goals as goal

@@ -1,7 +1,5 @@
-use Rattle.std.proofs.Common.{◌≡◌, ℕ, Option, Some, None, refl, sym, ap, ◌∙◌}
-use Rattle.std.specs.Prelude.{option_map, find}
-use Rattle.std.proofs.Common.{Bool}
-use Rattle.std.specs.Prelude.{nat_le, if◌then◌else◌}
+use Rattle.std.proofs.Common.{◌≡◌, ℕ, Option, Some, None, refl, sym, ap, ◌∙◌, Bool}
+use Rattle.std.specs.Prelude.{option_map, find, nat_le, if◌then◌else◌}
 use Rattle.cps_base.specs.Limits.{most_flights, most_waiting}
 use Rattle.landing_rules.specs.Flights.{Landing, Callsign}
 use Rattle.landing_rules.specs.Rules.{lists}

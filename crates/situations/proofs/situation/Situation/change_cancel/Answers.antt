@@ -1,5 +1,4 @@
-use Rattle.std.proofs.Common.{rules}
-use Rattle.std.proofs.Common.{◌-◌, is_some, ap, ◌∙◌}
+use Rattle.std.proofs.Common.{rules, ◌-◌, is_some, ap, ◌∙◌}
 use Rattle.std.specs.Prelude.{find}
 use Rattle.indexmap.specs.IndexMap.{move_index}
 use Rattle.landing_rules.specs.Flights.{Situation}

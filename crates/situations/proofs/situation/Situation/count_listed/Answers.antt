@@ -1,5 +1,4 @@
-use Rattle.std.proofs.Common.{rules}
-use Rattle.std.proofs.Common.{refl}
+use Rattle.std.proofs.Common.{rules, refl}
 use Rattle.situations.specs.Named.{counted, with_count}
 use Rattle.situations.specs.Opened.{counts_in}
 use Rattle.situations.proofs.Named.{as_from_before, as_from_end, count_first}

@@ -1,5 +1,4 @@
-use Rattle.std.proofs.Common.{rules}
-use Rattle.std.proofs.Common.{refl, ap, ◌∙◌}
+use Rattle.std.proofs.Common.{rules, refl, ap, ◌∙◌}
 use Rattle.situations.proofs.Apart.{with_estimate}
 use Rattle.situations.proofs.ChangedFlights.{IsChanged, none_changed, one_changed}
 use Rattle.situations.proofs.Keyed.{keyed_apart, looked_up}

@@ -1,5 +1,4 @@
-use Rattle.std.proofs.Common.{rules}
-use Rattle.std.proofs.Common.{Some, refl}
+use Rattle.std.proofs.Common.{rules, Some, refl}
 use Rattle.situations.specs.Named.{frozen_so, with_second}
 use Rattle.situations.specs.Opened.{seconds_in}
 use Rattle.situations.proofs.Named.{as_from_before, as_from_end, second_first}

@@ -1,5 +1,4 @@
-use Rattle.std.proofs.Common.{rules}
-use Rattle.std.proofs.Common.{refl}
+use Rattle.std.proofs.Common.{rules, refl}
 use Rattle.std.proofs.lemmas.List.{length-map}
 use Rattle.situations.proofs.ChangedFlights.{in_step}
 use Rattle.situations.proofs.Keyed.{keyed_moved, values_moved}

@@ -1,5 +1,4 @@
-use Rattle.std.proofs.Common.{arith, rules}
-use Rattle.std.proofs.Common.{[], ap, ◌≡◌, ◌∙◌}
+use Rattle.std.proofs.Common.{arith, rules, [], ap, ◌≡◌, ◌∙◌}
 use Rattle.std.specs.Map.{values_of}
 use Rattle.situations.specs.Opened.{opened}
 use Rattle.situations.proofs.Keyed.{all_opened, newcomers_keyed}
