@@ -1,10 +1,7 @@
 -- From the one verdict of a situation to the one text of `check`, and to its answer on what `certify` prints.
-use Rattle.std.proofs.Common.{◌≡◌, refl, ℕ, List, ap, subst, sym, ◌∙◌}
-use Rattle.arrivals.specs.declared.aerodrome.Aerodrome.{Aerodrome}
-use Rattle.arrivals.specs.declared.flight.Flight.{Flight}
+use Rattle.std.proofs.Common.{◌≡◌, refl, ℕ, List, sym, ◌∙◌}
 use Rattle.certificate.specs.declared.certificate.Claim.{Claim}
 use Rattle.certificate.specs.declared.certificate.Claim.TheVariants as claim
-use Rattle.certificate.specs.Reading.{Cert}
 use Rattle.cert_check.specs.Situations.{OneVerdictLaw}
 use Rattle.cert_check.specs.WholeLaws.{claimed}
 use Rattle.cert_check.specs.declared.verdict.Verdict.{Verdict}
@@ -18,24 +15,18 @@ use Rattle.certificate_commands.specs.Check.{AdmitsCheck, CheckTextIsOneLaw, IsJ
 use Rattle.certificate_commands.specs.Verdicts.{answer_of_verdict, verdict_text}
 
 -- a certificate is judged in one way for the files of one situation
-one_judged : OneVerdictLaw → (aerodrome : Aerodrome) (flights : List Flight) (c : Cert) (v w : Verdict)
-    → IsJudged aerodrome flights c v
-    → IsJudged aerodrome flights c w → v ≡ w
-one_judged law aerodrome flights c v w j k =
-    j.verdict_is ∙ law (opened aerodrome flights) j.problem k.problem c j.problem_of k.problem_of ∙ sym k.verdict_is
-
--- and so are the bytes
 one_verdict : OneVerdictLaw → (a f c : List ℕ) (v w : Verdict) → Judges a f c v → Judges a f c w → v ≡ w
 one_verdict law a f c v w x y =
+    let here = x.holds in
     let there = same_three _ a f c _ x _ y (λ b fs d. IsJudged b fs d w) y.holds in
-    one_judged law x.aerodrome x.flights x.third v w x.holds there
+    here.verdict_is
+    ∙ law (opened x.aerodrome x.flights) here.problem there.problem x.third here.problem_of there.problem_of
+    ∙ sym there.verdict_is
 
 pub text_is_one : OneVerdictLaw → CheckTextIsOneLaw
 text_is_one law a f c text other answer another x y =
-    let verdicts = one_verdict law a f c x.verdict y.verdict x.judges y.judges in (
-      x.prints ∙ ap verdict_text verdicts ∙ sym y.prints,
-      x.answers ∙ ap answer_of_verdict verdicts ∙ sym y.answers,
-    )
+    let verdicts = one_verdict law a f c x.verdict y.verdict x.judges y.judges in
+    (cc (x.prints, y.prints), cc (x.answers, y.answers))
 
 accepted_answer : (c : Claim) → Accepted ≡ answer_of_verdict (claimed c)
 accepted_answer (claim.Optimal v) = refl
@@ -68,7 +59,6 @@ printed_accepted law a f text answer printed =
       taken = λ cause. three_taken _ a f text _ there.judges Certificate cause there.judges.holds.taken;
       answered = λ other told. (
         λ here. text_is_one law a f text other line told Accepted here there,
-        λ same. subst (λ (x : List ℕ). AdmitsCheck a f text x told) (sym same.0)
-            (subst (λ (x : Answer). AdmitsCheck a f text line x) (sym same.1) there),
+        λ same. rw (same.0, same.1) there,
       );
     }

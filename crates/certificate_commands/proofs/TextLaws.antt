@@ -1,6 +1,6 @@
 -- From the clauses of printed certificates and verdicts to the laws of their texts.
-use Rattle.std.proofs.Common.{◌≡◌, ℕ, ◌+◌, ◌≤◌, inl, inr, List, [], ◌∷◌, ◌++◌, length, map, refl}
-use Rattle.std.proofs.Common.{sym, ap, ap₂, subst, ◌∙◌, arith}
+use Rattle.std.proofs.Common.{◌≡◌, ℕ, ◌+◌, ◌≤◌, inl, inr, List, [], ◌∷◌, ◌++◌, length, map, refl, sym, ap, ap₂, subst}
+use Rattle.std.proofs.Common.{◌∙◌, arith}
 use Rattle.std.specs.Prelude.{decimal, min}
 use Rattle.std.specs.Ordering.{is_lt}
 use Rattle.std.proofs.Math.Nat.{mul-le-mul_right}
@@ -42,8 +42,7 @@ use Rattle.endings.specs.declared.ending.Answer.{Answer}
 use Rattle.endings.specs.shared.Files.{of_two, same_two}
 use Rattle.certificate_commands.specs.Certify.{AdmitsCertify, Certifies, IsCertified}
 use Rattle.certificate_commands.specs.TextLaws.{CertifyIsBoundedLaw, CertifyIsLoadableLaw, CertifyTextsLaw}
-use Rattle.certificate_commands.specs.TextLaws.{CheckIsBoundedLaw, DifferInLandingsAlone}
-use Rattle.certificate_commands.specs.TextLaws.{certify_bound_of}
+use Rattle.certificate_commands.specs.TextLaws.{CheckIsBoundedLaw, DifferInLandingsAlone, certify_bound_of}
 use Rattle.certificate_commands.specs.Verdicts.{IsTrueOf, verdict_text}
 
 -- ---- two certificates of one situation
@@ -54,10 +53,7 @@ one_claim : (s : Situation) (p q : Problem) (ls ms : Landings) (c d : Claim) →
 one_claim s p q ls ms (claim.Optimal v) (claim.Optimal w) h k =
     let low = h.best.least _ k.best.feasible in
     let high = k.best.least _ h.best.feasible in
-    let one = h.objective in
-    let other = k.objective in
-    let same : v ≡ w = omega (arith, low, high, one, other) in
-    ap claim.Optimal same
+    ap claim.Optimal (omega (arith, low, high, h.objective, k.objective))
 one_claim s p q ls ms (claim.Optimal v) claim.Infeasible h k = absurd (k _ h.best.feasible)
 one_claim s p q ls ms claim.Infeasible (claim.Optimal w) h k = absurd (h _ k.best.feasible)
 one_claim s p q ls ms claim.Infeasible claim.Infeasible h k = refl
@@ -104,29 +100,24 @@ certify_texts law a f text other answer another x y =
 length_insert : (a : Active) (as' : List Active) → length (insert_by_rank a as') ≡ length as' + 1
 length_insert a [] = refl
 length_insert a (b ∷ rest) = elim (cases_Bool (is_lt (arrival_cmp b.flight a.flight))) [
-  | inl before ↦ rw before (let more = length_insert a rest in omega (arith, more))
+  | inl before ↦ rw before (omega (arith, length_insert a rest))
   | inr behind ↦ rw behind (omega arith)
 ]
 
 length_by_rank : (all : List Active) → length (by_rank all) ≡ length all
 length_by_rank [] = refl
-length_by_rank (a ∷ all) = let one = length_insert a (by_rank all) in let rest =
-    length_by_rank all in omega (arith, one, rest)
+length_by_rank (a ∷ all) = omega (arith, length_insert a (by_rank all), length_by_rank all)
 
 -- a problem has at most the situation's flights
 few_waiting : (s : Situation) (p : Problem) → IsProblemOf s p → length p.flights ≤ length s.active
 few_waiting s p h =
-    let a = AllZip-long (IsWaitingOf s.closures) (by_rank (waiting s)) p.flights h.flights in
-    let b = length_by_rank (waiting s) in
-    let c = length-filter is_waiting s.active in
-    let d = count_by-le-length is_waiting s.active in
-    omega (arith, a, b, c, d)
+    let long = AllZip-long (IsWaitingOf s.closures) (by_rank (waiting s)) p.flights h.flights in
+    omega (arith, length_by_rank (waiting s), length-filter is_waiting s.active, count_by-le-length is_waiting s.active)
 
 bound_rises : (o : Objective) (k n m : ℕ) → n ≤ m → whole_bound o k n ≤ whole_bound o k m
 bound_rises o k n m le =
     let nodes = mul-le-mul_right (most_nodes k) le in
-    let pairs = mul-le-mul_right (most_pairs o) nodes in
-    omega (arith, le, nodes, pairs)
+    omega (arith, mul-le-mul_right (most_pairs o) nodes)
 
 module _ (law : WholeCertificateIsBoundedLaw) (a f text : List ℕ) (answer : Answer)
     (x : AdmitsCertify a f text answer) where
@@ -137,20 +128,17 @@ module _ (law : WholeCertificateIsBoundedLaw) (a f text : List ℕ) (answer : An
       let p = judged.problem in
       let whole = law s p x.holds.certificate judged.sound judged.problem_of judged.well_formed
       judged.in_form x.holds.certified.whole in
-      let waiting_few = few_waiting s p judged.problem_of in
       let all = length-map (map flight_of x.flights) (opening_flight (opening_of x.aerodrome)) in
-      let each = length-map x.flights flight_of in
-      let most = judged.well_formed.few_flights in
-      let rises = bound_rises x.aerodrome.objective x.aerodrome.k (length p.flights)
-      (min most_waiting (length x.flights)) (omega (arith, waiting_few, all, each, most)) in
-      let named : length (certificate_text x.holds.certificate) ≤ whole_bound x.aerodrome.objective x.aerodrome.k
-      (length p.flights) =
-      subst (λ (k : ℕ). length (certificate_text x.holds.certificate) ≤ whole_bound x.aerodrome.objective k
-      (length p.flights)) judged.problem_of.k
-      (subst (λ (o : Objective). length (certificate_text x.holds.certificate) ≤ whole_bound o p.k
-      (length p.flights)) judged.problem_of.objective whole) in
-      let long = ap length x.holds.prints in
-      omega (arith, named, rises, long)
+      let few : length p.flights ≤ min most_waiting (length x.flights) =
+      omega (
+        arith,
+        few_waiting s p judged.problem_of,
+        length-map x.flights flight_of,
+        judged.well_formed.few_flights,
+      ) in
+      let rises = bound_rises x.aerodrome.objective x.aerodrome.k _ _ few in
+      let named = rw (judged.problem_of.k, judged.problem_of.objective) at whole in
+      omega (arith, named, rises, ap length x.holds.prints)
 
 pub certify_short : WholeCertificateIsBoundedLaw → CertifyIsBoundedLaw
 certify_short law a f text answer x =
@@ -159,9 +147,8 @@ certify_short law a f text answer x =
 
 pub certify_loadable : WholeCertificateIsBoundedLaw → LoadableIsShortLaw → CertifyIsLoadableLaw
 certify_loadable law loads a f text answer x few =
-    let bound = short law a f text answer x in
     let small = loads x.aerodrome.objective x.aerodrome.k (min most_waiting (length x.flights)) few in
-    omega (arith, bound, small)
+    omega (arith, short law a f text answer x)
 
 -- ---- how long a verdict's line is
 
@@ -171,29 +158,24 @@ one_number n = length-append (decimal n) (10 ∷ [])
 
 two_numbers : (n m : ℕ) → length (decimal n ++ 32 ∷ (decimal m ++ 10 ∷ [])) ≡ length (decimal n) + length
     (decimal m) + 2
-two_numbers n m = let a = length-append (decimal n) (32 ∷ (decimal m ++ 10 ∷ [])) in let b =
-    length-append (decimal m) (10 ∷ []) in omega (arith, a, b)
+two_numbers n m = simp length-append (omega arith)
 
 reason_short : (r : Reason) → HasSmallNumbers r → length (verdict_text (verdict.Rejected r)) ≤ 33
 reason_short Flights h = omega arith
-reason_short (Closed r) h = let a = rank_short r h in let b = one_number r in omega (arith, a, b)
-reason_short (Early r) h = let a = rank_short r h in let b = one_number r in omega (arith, a, b)
-reason_short (Separation r q) h = let a = rank_short r h.0 in let b = rank_short q h.1 in let c =
-    two_numbers r q in omega (arith, a, b, c)
-reason_short (Precedence r q) h = let a = rank_short r h.0 in let b = rank_short q h.1 in let c =
-    two_numbers r q in omega (arith, a, b, c)
-reason_short (Shift r) h = let a = rank_short r h in let b = one_number r in omega (arith, a, b)
-reason_short (Value v) h = let a = value_short v (omega (arith, h)) in let b = one_number v in omega (arith, a, b)
-reason_short (Shape i) h = let a = value_short i (omega (arith, h)) in let b = one_number i in omega (arith, a, b)
-reason_short (Successor i r) h = let x = h.0 in let a = value_short i (omega (arith, x)) in let b =
-    rank_short r h.1 in let c = two_numbers i r in omega (arith, a, b, c)
-reason_short (Final i) h = let a = value_short i (omega (arith, h)) in let b = one_number i in omega (arith, a, b)
+reason_short (Closed r) h = omega (arith, rank_short r h, one_number r)
+reason_short (Early r) h = omega (arith, rank_short r h, one_number r)
+reason_short (Separation r q) h = omega (arith, rank_short r h.0, rank_short q h.1, two_numbers r q)
+reason_short (Precedence r q) h = omega (arith, rank_short r h.0, rank_short q h.1, two_numbers r q)
+reason_short (Shift r) h = omega (arith, rank_short r h, one_number r)
+reason_short (Value v) h = omega (arith, value_short v (omega (arith, h)), one_number v)
+reason_short (Shape i) h = omega (arith, value_short i (omega (arith, h)), one_number i)
+reason_short (Successor i r) h =
+    omega (arith, value_short i (omega (arith, h.0)), rank_short r h.1, two_numbers i r)
+reason_short (Final i) h = omega (arith, value_short i (omega (arith, h)), one_number i)
 
 verdict_short : (v : Verdict) → IsSmall v → length (verdict_text v) ≤ 33
 verdict_short (verdict.Optimal v) h =
-    let a = value_short v (omega (arith, h)) in
-    let b = one_number v in
-    omega (arith, a, b)
+    omega (arith, value_short v (omega (arith, h)), one_number v)
 verdict_short verdict.Infeasible h = omega arith
 verdict_short (verdict.Rejected r) h = reason_short r h
 
@@ -202,6 +184,4 @@ check_short a f c text answer x =
     let judged = x.judges.holds in
     let small = subst IsSmall (sym judged.verdict_is)
     (verdict_has_small_numbers judged.problem judged.well_formed x.judges.third judged.in_form) in
-    let line = verdict_short x.verdict small in
-    let long = ap length x.prints in
-    omega (arith, line, long)
+    omega (arith, verdict_short x.verdict small, ap length x.prints)

@@ -43,8 +43,8 @@ numbers_fit : (a b d : Option ℕ) (c : Command) (words : List (List ℕ))
     → ((n : ℕ) → b ≡ Some n → (1 ≤ n) × (n ≤ most_waiting)) → ((k : ℕ) → d ≡ Some k → (0 ≤ k) × (k ≤ 3))
     → trial_by a b d ≡ Some c → Fits c words
 numbers_fit (Some s) (Some n) (Some k) c words few near e =
-    let same : Trial s n k ≡ c = same_Some _ c e in
-    subst (λ (x : Command). Fits x words) same (refl, ((few n refl).0, (few n refl).1, (near k refl).1))
+    subst (λ (x : Command). Fits x words) (same_Some (Trial s n k) c e)
+    (refl, ((few n refl).0, (few n refl).1, (near k refl).1))
 numbers_fit a b d c words few near e = absurd (cc e)
 
 trial_fits : (rest : List (List ℕ)) (c : Command) (words : List (List ℕ)) → trial_of rest ≡ Some c → Fits c words
@@ -132,7 +132,5 @@ bounded plan replay certify check effort trial first what_if audit = go
     go WhatIf (a ∷ f ∷ t ∷ []) puts text range (one, (answer, may)) = what_if a f t text answer may
     go Audit (a ∷ f ∷ p ∷ []) puts text range (one, (answer, may)) = audit a f p text answer may
     go (Trial s n k) [] puts text range (one, (answer, may)) =
-        let few = range.1 in
-        let near = range.2 in
-        trial s n k text answer (omega (arith, few)) (omega (arith, near)) may
+        trial s n k text answer (omega (arith, range.1)) (omega (arith, range.2)) may
     go command contents puts text range may = absurd may.1.1

@@ -1,15 +1,12 @@
 -- When status 3 and status 6 come.
 use Rattle.std.proofs.Common.{◌≡◌, refl, inl, inr, ℕ, zero, suc, ◌+◌, ◌-◌, ◌<◌, ◌≤◌, List, [], ◌∷◌, ◌++◌, length, take}
-use Rattle.std.proofs.Common.{drop, Some, IsTrue, ap, sym, ◌∙◌, subst, arith, length-append, take-append-drop}
+use Rattle.std.proofs.Common.{drop, Some, IsTrue, ap, sym, ◌∙◌, arith, length-append, take-append-drop}
 use Rattle.std.proofs.lemmas.Bool.{cases_lt}
 use Rattle.std.proofs.lemmas.List.{take-append-le}
-use Rattle.std.specs.List.{AllByRecursion}
-use Rattle.std.proofs.lemmas.Option.{same_Some}
-use Rattle.cps_top.specs.declared.commands.Command.{Command}
 use Rattle.endings.specs.declared.ending.Ending.{Ending}
 use Rattle.endings.specs.declared.ending.Ending.TheVariants.{Answered, Misused, Refused, NotLoaded, NotWritten, TooLong}
 use Rattle.endings.specs.declared.ending.Ending.TheVariants.{NoMemory}
-use Rattle.cps_top.specs.Commands.{command_of, files_of}
+use Rattle.cps_top.specs.Commands.{files_of}
 use Rattle.cps_outside.specs.FolderState.{FolderState}
 use Rattle.endings.specs.Loads.{limit, FailsAt, FailsWithin}
 use Rattle.endings.specs.Lines.{status_of}
@@ -17,22 +14,7 @@ use Rattle.endings.specs.Outside.{Outside}
 use Rattle.cps_top.specs.Outcome.{Ends, Serves}
 use Rattle.cps_top.specs.Statuses.{IsExact}
 use Rattle.cps_top.proofs.ByCommand.{excludes, excludes_begun}
-use Rattle.cps_top.proofs.Complete.{serves_at, none_too_long, Within, all_within, all_named, all_at, within_fits}
-
--- a command whose files were loaded has none that is too long
-none_longer : (words : List (List ℕ)) (old new : Outside) (ending : Ending) (command : Command)
-    (before after : List (List ℕ)) (name bytes : List ℕ) →
-    command_of words ≡ Some command → IsTrue old.folder.tells → files_of words ≡ (before ++ name ∷ []) ++ after →
-    old.folder.content name ≡ Some bytes → limit < length bytes → Serves words old new ending → ⊥
-none_longer words old new ending command before after name bytes named tells split content longer s =
-    let same : s.command ≡ command = same_Some s.command command (sym s.named ∙ named) in
-    let names : files_of words ≡ (before ++ name ∷ []) ++ after = ap (λ q. files_of words) same ∙ split in
-    let all = all_named old.folder.content (files_of words)
-    (subst (AllByRecursion Within) (sym (s.loads.told tells)) (all_within s.contents s.loads.bounded)) in
-    let at = all_at (λ n. Within (old.folder.content n)) before name after
-    (subst (AllByRecursion (λ n. Within (old.folder.content n))) names all) in
-    let fits = within_fits bytes (old.folder.content name) content at in
-    omega (arith, fits, longer)
+use Rattle.cps_top.proofs.Complete.{serves, none_too_long, part_within, within_fits}
 
 -- the start of a list goes past its first part
 take_past : (xs ys : List (List ℕ)) (n : ℕ) → length xs ≤ n → (rest : List (List ℕ)) × (take n (xs ++ ys) ≡ xs ++ rest)
@@ -55,14 +37,10 @@ fails_within old new names before after name bytes place tells split content lon
   cause = fails.cause;
   asked = λ told. elim (cases_lt (length before + 1) place) [
     | inl late ↦ absurd (
-        let all = all_named old.content (take (place - 1) names)
-        (subst (AllByRecursion Within) (sym (fails.stops.earlier told))
-        (all_within fails.stops.contents fails.stops.bounded)) in
         let past = take_past (before ++ name ∷ []) after (place - 1) (grind (arith, length-append)) in
-        let some : take (place - 1) names ≡ (before ++ name ∷ []) ++ past.0 = ap (take (place - 1)) split ∙ past.1 in
-        let at = all_at (λ n. Within (old.content n)) before name past.0
-        (subst (AllByRecursion (λ n. Within (old.content n))) some all) in
-        let fits = within_fits bytes (old.content name) content at in
+        let fits = within_fits bytes (old.content name) content (part_within old.content (take (place - 1) names)
+        fails.stops.contents before past.0 name (fails.stops.earlier told) fails.stops.bounded
+        (ap (take (place - 1)) split ∙ past.1)) in
         omega (arith, fits, longer))
     | inr early ↦ (
       take place (before ++ name ∷ []),
@@ -74,51 +52,56 @@ fails_within old new names before after name bytes place tells split content lon
   ];
 }
 
-pub exact : (words : List (List ℕ)) (old new : Outside) (status : ℕ) (ending : Ending) →
-    status ≡ status_of ending → Ends words old new ending → IsExact words old new status
-exact words old new status (Answered answer) is ends = record {
-  refused = λ command contents refusal there refuses.
-      let prints = serves_at words old new (Answered answer) command contents there.named there.tells there.told ends in
-      absurd (excludes command contents prints.text answer refusal prints.admitted refuses);
-  too_long = λ command before after name bytes named tells split content longer.
-      absurd (none_longer words old new (Answered answer) command before after name bytes named
-      tells split content longer ends);
-}
-exact words old new status Misused is ends = record {
-  refused = λ command contents refusal there refuses. let named = there.named in let unnamed = ends.0 in cc;
-  too_long = λ command before after name bytes named tells split content longer. let unnamed = ends.0 in cc;
-}
-exact words old new status (Refused cause) is ends = record {
-  refused = λ command contents refusal there refuses. inl is;
-  too_long = λ command before after name bytes named tells split content longer.
-      absurd (none_longer words old new (Refused cause) command before after name bytes named
-      tells split content longer ends);
-}
-exact words old new status (NotLoaded place) is ends = record {
-  refused = λ command contents refusal there refuses. inr (inr (is, ends.loads.cause));
-  too_long = λ command before after name bytes named tells split content longer.
-      inr (inr (
-        is,
-        fails_within old.folder new.folder
-            (files_of words) before after name bytes place tells split content longer ends.loads,
-      ));
-}
-exact words old new status NotWritten is ends = record {
-  refused = λ command contents refusal there refuses.
-      let prints = serves_at words old new NotWritten command contents there.named there.tells there.told ends in
-      absurd (excludes_begun command contents (prints.puts + 1) (prints.whole ++ prints.last) refusal prints.begun
-      refuses);
-  too_long = λ command before after name bytes named tells split content longer.
-      absurd (none_longer words old new NotWritten command before after name bytes named tells
-      split content longer ends);
-}
-exact words old new status (TooLong place) is ends = record {
-  refused = λ command contents refusal there refuses.
-      absurd (none_too_long old.folder new.folder (files_of words) contents place there.tells
-      there.told there.bounded ends.loads);
-  too_long = λ command before after name bytes named tells split content longer. inl is;
-}
-exact words old new status NoMemory is ends = record {
-  refused = λ command contents refusal there refuses. inr (inl is);
-  too_long = λ command before after name bytes named tells split content longer. inr (inl is);
-}
+module _ (words : List (List ℕ)) (old new : Outside) (status : ℕ) where
+  -- a command whose files were loaded has none that is too long
+  none_longer : (ending : Ending) (before after : List (List ℕ)) (name bytes : List ℕ) → IsTrue old.folder.tells
+      → files_of words ≡ (before ++ name ∷ []) ++ after → old.folder.content name ≡ Some bytes
+      → limit < length bytes → Serves words old new ending → ⊥
+  none_longer ending before after name bytes tells split content longer s =
+      let fits = within_fits bytes (old.folder.content name) content (part_within old.folder.content (files_of words)
+      s.contents before after name (s.loads.told tells) s.loads.bounded split) in
+      omega (arith, fits, longer)
+
+  pub exact : (ending : Ending) → status ≡ status_of ending → Ends words old new ending → IsExact words old new status
+  exact (Answered answer) is ends = record {
+    refused = λ command contents refusal there refuses.
+        let prints = serves words old new command contents there (Answered answer) ends in
+        absurd (excludes command contents prints.text answer refusal prints.admitted refuses);
+    too_long = λ command before after name bytes named tells split content longer.
+        absurd (none_longer (Answered answer) before after name bytes tells split content longer ends);
+  }
+  exact Misused is ends = record {
+    refused = λ command contents refusal there refuses. let named = there.named in let unnamed = ends.0 in cc;
+    too_long = λ command before after name bytes named tells split content longer. let unnamed = ends.0 in cc;
+  }
+  exact (Refused cause) is ends = record {
+    refused = λ command contents refusal there refuses. inl is;
+    too_long = λ command before after name bytes named tells split content longer.
+        absurd (none_longer (Refused cause) before after name bytes tells split content longer ends);
+  }
+  exact (NotLoaded place) is ends = record {
+    refused = λ command contents refusal there refuses. inr (inr (is, ends.loads.cause));
+    too_long = λ command before after name bytes named tells split content longer.
+        inr (inr (
+          is,
+          fails_within old.folder new.folder
+              (files_of words) before after name bytes place tells split content longer ends.loads,
+        ));
+  }
+  exact NotWritten is ends = record {
+    refused = λ command contents refusal there refuses.
+        let prints = serves words old new command contents there NotWritten ends in
+        absurd (excludes_begun command contents (prints.puts + 1) (prints.whole ++ prints.last) refusal prints.begun
+        refuses);
+    too_long = λ command before after name bytes named tells split content longer.
+        absurd (none_longer NotWritten before after name bytes tells split content longer ends);
+  }
+  exact (TooLong place) is ends = record {
+    refused = λ command contents refusal there refuses.
+        absurd (none_too_long words old new command contents there place ends.loads);
+    too_long = λ command before after name bytes named tells split content longer. inl is;
+  }
+  exact NoMemory is ends = record {
+    refused = λ command contents refusal there refuses. inr (inl is);
+    too_long = λ command before after name bytes named tells split content longer. inr (inl is);
+  }

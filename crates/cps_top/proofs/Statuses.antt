@@ -4,19 +4,15 @@ use Rattle.std.proofs.Common.{take-append-drop, arith}
 use Rattle.endings.specs.declared.ending.Answer.{Answer}
 use Rattle.endings.specs.declared.ending.Answer.TheVariants.{Scheduled}
 use Rattle.endings.specs.declared.ending.Ending.{Ending}
-use Rattle.endings.specs.declared.ending.Ending.TheVariants.{Answered, Misused, Refused, NotLoaded, NotWritten}
-use Rattle.endings.specs.declared.ending.Ending.TheVariants.{TooLong, NoMemory}
+use Rattle.endings.specs.declared.ending.Ending.TheVariants.{Answered, Misused, Refused, NotLoaded, NotWritten, TooLong}
+use Rattle.endings.specs.declared.ending.Ending.TheVariants.{NoMemory}
 use Rattle.endings.specs.Lines.{answer_status, status_of}
 use Rattle.endings.specs.Outside.{Outside}
 use Rattle.cps_top.specs.Outcome.{Ends, Serves}
 use Rattle.cps_top.specs.Commands.{files_of}
-use Rattle.endings.specs.Loads.{AsksForSome, StopsAt, Loads}
+use Rattle.endings.specs.Loads.{AsksForSome, StopsAt}
 use Rattle.cps_outside.specs.FolderState.{FolderState}
 use Rattle.cps_top.specs.Statuses.{Asks}
-
-loads_all : (old new : FolderState) (names contents : List (List ℕ)) → Loads old new names contents
-    → AsksForSome old new names
-loads_all old new names contents l = λ told. (names, [], append-nil names, l.asked told)
 
 stops_some : (old new : FolderState) (names : List (List ℕ)) (place : ℕ) → StopsAt old new names place
     → AsksForSome old new names
@@ -31,16 +27,6 @@ answers : (answer : Answer) → IsOfRun (answer_status answer)
 answers Scheduled = (λ e. omega arith, λ e. omega arith, λ e. omega arith)
 answers answer = (λ e. omega arith, λ e. omega arith, λ e. omega arith)
 
-ran : (words : List (List ℕ)) (old new : Outside) (status : ℕ) (ending : Ending) → IsOfRun status
-    → Serves words old new ending → Asks words old new status
-ran words old new status ending other s = record {
-  none = λ e. absurd (other.0 e);
-  some = λ named. loads_all old.folder new.folder (files_of words) s.contents s.loads;
-  all = λ e told. s.loads.asked told;
-  failed = λ e. absurd (other.1 e);
-  too_long = λ e. absurd (other.2 e);
-}
-
 -- the even statuses above 0 say that not all files need have been asked for
 not_all : (half status : ℕ) → 1 ≤ half → status ≡ half + half → (status ≡ 0) ⊎ (status ≡ 1)
     ⊎ (status ≡ 3) ⊎ (status ≡ 5) ⊎ (status ≡ 7) → ⊥
@@ -54,41 +40,46 @@ not_all half status some even told =
       | inr (inr (inr (inr a))) ↦ omega arith
     ]
 
-pub asks : (words : List (List ℕ)) (old new : Outside) (status : ℕ) (ending : Ending) →
-    status ≡ status_of ending → Ends words old new ending → Asks words old new status
-asks words old new status (Answered answer) is ends =
-    ran words old new status (Answered answer) (subst IsOfRun (sym is) (answers answer)) ends
-asks words old new status Misused is ends = record {
-  none = λ e. ap (λ o. o.folder) ends.1;
-  some = λ named. absurd (named ends.0);
-  all = λ e told. absurd (not_all 1 status (omega arith) is e);
-  failed = λ e. absurd (omega arith);
-  too_long = λ e. absurd (omega arith);
-}
-asks words old new status (Refused refusal) is ends =
-    ran words old new status (Refused refusal) (λ e. omega arith, λ e. omega arith, λ e. omega arith) ends
-asks words old new status (NotLoaded place) is ends = record {
-  none = λ e. absurd (omega arith);
-  some = λ named. stops_some old.folder new.folder (files_of words) place ends.loads.stops;
-  all = λ e told. absurd (not_all 2 status (omega arith) is e);
-  failed = λ e. (place, ends.loads);
-  too_long = λ e. absurd (omega arith);
-}
-asks words old new status NotWritten is ends =
-    ran words old new status NotWritten (λ e. omega arith, λ e. omega arith, λ e. omega arith) ends
-asks words old new status (TooLong place) is ends = record {
-  none = λ e. absurd (omega arith);
-  some = λ named. stops_some old.folder new.folder (files_of words) place ends.loads.stops;
-  all = λ e told. absurd (not_all 3 status (omega arith) is e);
-  failed = λ e. absurd (omega arith);
-  too_long = λ e. (place, ends.loads);
-}
-asks words old new status NoMemory is (inl ends) = record {
-  none = λ e. absurd (omega arith);
-  some = λ named. ends.loads;
-  all = λ e told. absurd (not_all 4 status (omega arith) is e);
-  failed = λ e. absurd (omega arith);
-  too_long = λ e. absurd (omega arith);
-}
-asks words old new status NoMemory is (inr ends) =
-    ran words old new status NoMemory (λ e. omega arith, λ e. omega arith, λ e. omega arith) ends
+module _ (words : List (List ℕ)) (old new : Outside) (status : ℕ) where
+  ran : (ending : Ending) → IsOfRun status → Serves words old new ending → Asks words old new status
+  ran ending other s = record {
+    none = λ e. absurd (other.0 e);
+    some = λ named told. (files_of words, [], append-nil (files_of words), s.loads.asked told);
+    all = λ e told. s.loads.asked told;
+    failed = λ e. absurd (other.1 e);
+    too_long = λ e. absurd (other.2 e);
+  }
+
+  pub asks : (ending : Ending) → status ≡ status_of ending → Ends words old new ending → Asks words old new status
+  asks (Answered answer) is ends = ran (Answered answer) (subst IsOfRun (sym is) (answers answer)) ends
+  asks Misused is ends = record {
+    none = λ e. ap (λ o. o.folder) ends.1;
+    some = λ named. absurd (named ends.0);
+    all = λ e told. absurd (not_all 1 status (omega arith) is e);
+    failed = λ e. absurd (omega arith);
+    too_long = λ e. absurd (omega arith);
+  }
+  asks (Refused refusal) is ends = ran (Refused refusal) (λ e. omega arith, λ e. omega arith, λ e. omega arith) ends
+  asks (NotLoaded place) is ends = record {
+    none = λ e. absurd (omega arith);
+    some = λ named. stops_some old.folder new.folder (files_of words) place ends.loads.stops;
+    all = λ e told. absurd (not_all 2 status (omega arith) is e);
+    failed = λ e. (place, ends.loads);
+    too_long = λ e. absurd (omega arith);
+  }
+  asks NotWritten is ends = ran NotWritten (λ e. omega arith, λ e. omega arith, λ e. omega arith) ends
+  asks (TooLong place) is ends = record {
+    none = λ e. absurd (omega arith);
+    some = λ named. stops_some old.folder new.folder (files_of words) place ends.loads.stops;
+    all = λ e told. absurd (not_all 3 status (omega arith) is e);
+    failed = λ e. absurd (omega arith);
+    too_long = λ e. (place, ends.loads);
+  }
+  asks NoMemory is (inl ends) = record {
+    none = λ e. absurd (omega arith);
+    some = λ named. ends.loads;
+    all = λ e told. absurd (not_all 4 status (omega arith) is e);
+    failed = λ e. absurd (omega arith);
+    too_long = λ e. absurd (omega arith);
+  }
+  asks NoMemory is (inr ends) = ran NoMemory (λ e. omega arith, λ e. omega arith, λ e. omega arith) ends

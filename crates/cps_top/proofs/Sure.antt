@@ -1,12 +1,12 @@
 -- From a folder that is sure no load of files that are there fails, and into a sink that is sure no text fails for
 -- which there is room.
-use Rattle.std.proofs.Common.{◌≡◌, inl, inr, ℕ, ◌+◌, ◌<◌, ◌≤◌, List, ◌++◌, length, IsTrue, arith}
+use Rattle.std.proofs.Common.{◌≡◌, inl, inr, ℕ, ◌+◌, List, ◌++◌, IsTrue, arith}
 use Rattle.cps_outside.specs.SinkState.{SinkState}
 use Rattle.cps_top.specs.declared.commands.Command.{Command}
 use Rattle.endings.specs.declared.ending.Ending.{Ending}
 use Rattle.endings.specs.declared.ending.Ending.TheVariants.{NotWritten}
 use Rattle.endings.specs.declared.ending.FilesFault.{FilesFault}
-use Rattle.cps_top.specs.Commands.{IsCommandInRange, Refuses, TextsAreBoundedLaw, files_of}
+use Rattle.cps_top.specs.Commands.{IsCommandInRange, Refuses, TextsAreBoundedLaw}
 use Rattle.endings.specs.Lines.{status_of}
 use Rattle.endings.specs.Outside.{Outside}
 use Rattle.cps_top.specs.Outcome.{Ends, Follows}
@@ -21,17 +21,14 @@ none_unwritten : (command : Command) (contents : List (List ℕ)) (old new : Sin
     Follows command contents old new NotWritten → ⊥
 none_unwritten command contents old new sure room unwritten =
     let text = unwritten.whole ++ unwritten.last in
-    let fits : length text ≤ old.room = room (unwritten.puts + 1) text unwritten.begun in
-    let longer : old.room < length text = unwritten.written.lacked sure in
-    omega (arith, fits, longer)
+    omega (arith, room (unwritten.puts + 1) text unwritten.begun, unwritten.written.lacked sure)
 
 -- room for as many bytes as it prints at most holds each of its texts
 holds_each : TextsAreBoundedLaw → (command : Command) (contents : List (List ℕ)) (sink : SinkState)
     → IsCommandInRange command → HasRoom command contents sink
     → HoldsEach command contents sink
 holds_each law command contents sink range room puts text stands =
-    let short = law command contents puts text range stands in
-    omega (arith, short, room)
+    omega (arith, law command contents puts text range stands, room)
 
 pub is_sure : TextsAreBoundedLaw → (words : List (List ℕ)) (old new : Outside) (status : ℕ) (ending : Ending) →
     status ≡ status_of ending → Ends words old new ending → IsSure words old new status
@@ -46,8 +43,7 @@ is_sure law words old new status ending is ends = record {
         | inr (inl eight) ↦ inr eight
         | inr (inr four) ↦ (
             let fails = (asks words old new status ending is ends).failed four.0 in
-            absurd (none_fails old.folder new.folder
-            (files_of words) contents fails.0 there.tells folder there.told there.bounded fails.1))
+            absurd (none_fails words old new command contents there fails.0 folder fails.1))
       ];
 }
   where
@@ -56,7 +52,6 @@ is_sure law words old new status ending is ends = record {
         → HoldsEach command contents old.out
         → IsComplete command contents old new status
     held command contents there folder taken out room =
-        complete_unless words old new status ending command contents is ends there taken
-        (λ place fails. none_fails old.folder new.folder
-        (files_of words) contents place there.tells folder there.told there.bounded fails)
+        complete_unless words old new command contents there status ending is ends taken
+        (λ place fails. none_fails words old new command contents there place folder fails)
         (none_unwritten command contents old.out new.out out room)

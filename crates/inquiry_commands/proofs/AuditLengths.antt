@@ -1,33 +1,29 @@
 -- How long the lines of all findings are.
-use Rattle.std.proofs.Common.{◌≡◌, ℕ, suc, ◌+◌, ◌*◌, ◌<◌, ◌≤◌, inl, inr, List, [], ◌∷◌, ◌++◌, length, map, filter}
-use Rattle.std.proofs.Common.{if◌then◌else◌, true, false, Bool, Option, Some, None, refl, sym, ap, subst, ◌∙◌, arith}
-use Rattle.std.specs.Prelude.{◌==◌, ⊤, All, MatchOption, ◌||◌, not, bytes_eq, codes, count_by, decimal, filter_map}
-use Rattle.std.specs.Prelude.{find, flat_map, nat_lt, option_map, unwrap_or}
+use Rattle.std.proofs.Common.{◌≡◌, ℕ, suc, ◌+◌, ◌*◌, ◌≤◌, inl, inr, List, [], ◌∷◌, ◌++◌, length, map, filter}
+use Rattle.std.proofs.Common.{if◌then◌else◌, true, false, Bool, Option, Some, None, refl, sym, subst, arith}
+use Rattle.std.specs.Prelude.{◌==◌, ⊤, All, bytes_eq, codes, decimal, find, flat_map, nat_lt, unwrap_or}
 use Rattle.std.proofs.Math.Nat.{mul-le-mul_left, mul-le-mul_right}
 use Rattle.std.proofs.lemmas.Bool.{cases_Bool}
 use Rattle.std.proofs.lemmas.Fmt.{length-decimal-le}
 use Rattle.std.proofs.lemmas.Slice.Eq.{bytes_eq-Decides}
 use Rattle.std.proofs.lemmas.List.{length-append, length-map}
-use Rattle.std.proofs.lemmas.List.Elements.{All-nil, All-cons, All-filter, All-head, All-map, All-tail}
+use Rattle.std.proofs.lemmas.List.Elements.{All-nil, All-cons, All-filter, All-head, All-tail}
 use Rattle.std.proofs.lemmas.List.Sums.{count_by-le-length, length-filter}
 use Rattle.std.specs.List.{list_any}
 use Rattle.std.specs.Ordering.{is_lt}
-use Rattle.cps_base.specs.Text.{is_callsign}
-use Rattle.landing_rules.specs.declared.objective.Objective.{Objective}
 use Rattle.landing_rules.specs.Audit.{Block, Finding, Missing, Unknown, Twice, Order, Mark, Closed, Separation}
-use Rattle.landing_rules.specs.Audit.{Precedence, Moved, Early, Shift, OtherObjective, Value, are_apart, by_head}
-use Rattle.landing_rules.specs.Audit.{by_line, by_name, by_rules, closed, disordered, disordered_from, early, findings}
-use Rattle.landing_rules.specs.Audit.{for_failing, for_failing_pairs, has_line, is_before, is_kept, is_late_enough}
-use Rattle.landing_rules.specs.Audit.{is_marked, is_objective, landing_of, late, lines_found, listed_late, mismarked}
-use Rattle.landing_rules.specs.Audit.{missing, moved, or_else, other_objective, other_value, shifted, twice}
-use Rattle.landing_rules.specs.Audit.{twice_after, unknown, unseparated}
+use Rattle.landing_rules.specs.Audit.{Precedence, Moved, Early, Shift, Value, are_apart, by_head, by_line, by_name}
+use Rattle.landing_rules.specs.Audit.{by_rules, closed, disordered, disordered_from, early, findings, for_failing}
+use Rattle.landing_rules.specs.Audit.{for_failing_pairs, has_line, is_kept, is_late_enough, is_marked, is_objective}
+use Rattle.landing_rules.specs.Audit.{landing_of, late, lines_found, listed_late, mismarked, missing, moved, or_else}
+use Rattle.landing_rules.specs.Audit.{other_objective, other_value, shifted, twice, twice_after, unknown, unseparated}
 use Rattle.landing_rules.specs.Events.{named}
-use Rattle.landing_rules.specs.Flights.{Active, Callsign, Flight, Landing, Situation, horizon, landing}
-use Rattle.cps_base.specs.Limits.{greatest_value, greatest_weight, most_flights}
+use Rattle.landing_rules.specs.Flights.{Active, Callsign, Flight, Landing, Situation, horizon}
+use Rattle.cps_base.specs.Limits.{greatest_weight, most_flights}
 use Rattle.landing_rules.specs.Rules.{arrival_cmp, cost, is_open, last_second, place, rank_among, waits}
 use Rattle.landing_rules.specs.Sound.{IsGoodFlight, IsSound}
 use Rattle.landing_rules.specs.Testing.{is_shift_kept}
-use Rattle.landing_rules.specs.Text.{ShownLanding, line, lines_text}
+use Rattle.landing_rules.specs.Text.{ShownLanding, line}
 use Rattle.landing_rules.specs.shared.Counting.{Member}
 use Rattle.landing_rules.specs.shared.Members.{all_at, all_from, cases_option, found_in}
 use Rattle.audit.specs.Texts.{finding_words, findings_text}
@@ -44,11 +40,7 @@ Fits f = length (line (finding_words f)) ≤ 30
 
 joined : (a b : List Finding) → length (findings_text (a ++ b)) ≡ length (findings_text a) + length (findings_text b)
 joined [] b = omega arith
-joined (x ∷ a) b =
-    let rest = joined a b in
-    let p = length-append (line (finding_words x)) (findings_text (a ++ b)) in
-    let q = length-append (line (finding_words x)) (findings_text a) in
-    omega (arith, rest, p, q)
+joined (x ∷ a) b = simp length-append (omega (arith, joined a b))
 
 more : (x : Finding) (a : List Finding)
     → length (findings_text (x ∷ a)) ≡ length (line (finding_words x)) + length (findings_text a)
@@ -63,10 +55,8 @@ module _ {X : Type 0} (P : X → Type 0) where
       let rest = failing_short passes finding xs fits (All-tail P x xs all) in
       elim (cases_Bool (passes x)) [
         | inl passed ↦ rw passed (omega (arith, rest))
-        | inr failed ↦ rw failed (
-            let one = fits x (All-head P x xs all) failed in
-            let both = more (finding x) (for_failing passes finding xs) in
-            omega (arith, rest, one, both))
+        | inr failed ↦ rw failed
+            (omega (arith, fits x (All-head P x xs all) failed, more (finding x) (for_failing passes finding xs)))
       ]
 
   -- half as many as all pairs
@@ -78,11 +68,11 @@ module _ {X : Type 0} (P : X → Type 0) where
       let here = All-head P x xs all in
       let own = failing_short (pass x) (finding x) xs (λ y p failed. fits x y here p) (All-tail P x xs all) in
       let rest = pairs_short pass finding xs fits (All-tail P x xs all) in
-      let both = joined (for_failing (pass x) (finding x) xs) (for_failing_pairs pass finding xs) in
-      square (length xs) _ _ _ own rest both
+      square (length xs) _ _ _ own rest (joined (for_failing (pass x) (finding x) xs)
+      (for_failing_pairs pass finding xs))
     where
       square : (n a b c : ℕ) → a ≤ 30 * n → b ≤ 15 * (n * n) → c ≡ a + b → c ≤ 15 * (suc n * suc n)
-      square n a b c own rest both = omega (arith, own, rest, both)
+      square n a b c own rest both = omega arith
 
   flat_short : (m : ℕ) (g : X → List Finding) (xs : List X) → ((x : X) → P x → length (findings_text (g x)) ≤ m)
       → All P xs
@@ -91,11 +81,10 @@ module _ {X : Type 0} (P : X → Type 0) where
   flat_short m g (x ∷ xs) short all =
       let own = short x (All-head P x xs all) in
       let rest = flat_short m g xs short (All-tail P x xs all) in
-      let both = joined (g x) (flat_map g xs) in
-      once_more (length xs) _ _ _ own rest both
+      once_more (length xs) _ _ _ own rest (joined (g x) (flat_map g xs))
     where
       once_more : (n a b c : ℕ) → a ≤ m → b ≤ n * m → c ≡ a + b → c ≤ suc n * m
-      once_more n a b c own rest both = omega (arith, own, rest, both)
+      once_more n a b c own rest both = omega arith
 
 -- ---- the names and the order of the lines
 
@@ -109,12 +98,12 @@ twice_short seen (l ∷ ls) told =
       | inl there ↦ rw there (
           let both = more (Twice l.callsign) (twice_after (l ∷ seen) ls) in
           let end = length-append l.callsign (10 ∷ []) in
-          omega (arith, rest, name, both, end))
-      | inr new ↦ rw new (omega (arith, rest))
+          omega arith)
+      | inr new ↦ rw new (omega arith)
     ]
 
 small : (n : ℕ) → n ≤ 999 → length (decimal n) ≤ 3
-small n le = length-decimal-le 3 n (omega arith) (omega (arith, le)) (omega (arith, le))
+small n le = length-decimal-le 3 n (omega arith) (omega arith) (omega arith)
 
 order_short : (i t : ℕ) (ls : List ShownLanding) → i + length ls ≤ 999
     → length (findings_text (disordered_from i t ls)) ≤ 30 * length ls
@@ -123,17 +112,17 @@ order_short i t (l ∷ ls) few =
     let rest = order_short (i + 1) l.second ls (omega (arith, few)) in
     let digits = small i (omega (arith, few)) in
     elim (cases_Bool (nat_lt t l.second)) [
-      | inl later ↦ rw later (omega (arith, rest))
+      | inl later ↦ rw later (omega arith)
       | inr before ↦ rw before (
           let both = more (Order i) (disordered_from (i + 1) l.second ls) in
           let end = length-append (decimal i) (10 ∷ []) in
-          omega (arith, rest, digits, both, end))
+          omega arith)
     ]
 
 disordered_short : (ls : List ShownLanding) → length ls ≤ most_flights
     → length (findings_text (disordered ls)) ≤ 30 * length ls
 disordered_short [] few = omega arith
-disordered_short (l ∷ ls) few = let rest = order_short 2 l.second ls (omega (arith, few)) in omega (arith, rest)
+disordered_short (l ∷ ls) few = omega (arith, order_short 2 l.second ls (omega arith))
 
 -- ---- a callsign has one line where none stands twice
 
@@ -159,11 +148,7 @@ none_again seen [] c there none = refl
 none_again seen (l ∷ ls) c there none =
     let new = behind_new seen ls l none in
     elim (cases_Bool (bytes_eq l.callsign c)) [
-      | inl same ↦ absurd (
-          let seen_there : has_line seen l.callsign ≡ true = subst (λ (x : Callsign). has_line seen x ≡ true) (sym
-          (same_name l.callsign c same)) there in
-          let not_seen = new.0 in
-          cc)
+      | inl same ↦ absurd (let is = same_name l.callsign c same in cc (new.0, there))
       | inr other ↦ rw other (none_again (l ∷ seen) ls c (rw (other, there) refl) new.1)
     ]
 
@@ -184,15 +169,11 @@ landings_named c (f ∷ all) = if bytes_eq f.flight.callsign c then 1 + landings
 -- ---- a line of words and names
 
 one_name : (c : Callsign) → length c ≤ 8 → length (c ++ 10 ∷ []) ≤ 9
-one_name c short = let end = length-append c (10 ∷ []) in omega (arith, short, end)
+one_name c short = simp length-append (omega arith)
 
 -- two texts with a blank between them
 two_texts : (a b : List ℕ) → length ((a ++ codes " " ++ b) ++ 10 ∷ []) ≡ length a + length b + 2
-two_texts a b =
-    let x = length-append a (codes " ") in
-    let y = length-append (a ++ codes " ") b in
-    let z = length-append (a ++ codes " " ++ b) (10 ∷ []) in
-    omega (arith, x, y, z)
+two_texts a b = simp length-append (omega arith)
 
 module _ (s : Situation) (sound : IsSound s) where
   -- a line with a flight that is active
@@ -282,12 +263,11 @@ module _ (s : Situation) (sound : IsSound s) where
     closed_short =
         failing_short IsKnown (λ f. is_open f.flight.windows s.closures f.second)
         (λ (f : Landing). Closed f.flight.callsign f.second) all
-        (λ f h failed. let name = h.name in let t = second_short f.second h.second in
-        let w = two_texts f.flight.callsign (decimal f.second) in omega (arith, name, t, w)) has
+        (λ f h failed. omega (arith, second_short f.second h.second, two_texts f.flight.callsign (decimal f.second)))
+        has
 
     pair_fits : (f g : Landing) → IsKnown f → IsKnown g → Fits (Separation f.flight.callsign g.flight.callsign)
-    pair_fits f g h k = let a = h.name in let b = k.name in let w = two_texts f.flight.callsign g.flight.callsign in
-        omega (arith, a, b, w)
+    pair_fits f g h k = omega (arith, two_texts f.flight.callsign g.flight.callsign)
 
     unseparated_short : length (findings_text (unseparated s.aerodrome.table all)) ≤ 15 * (length all * length all)
     unseparated_short =
@@ -295,7 +275,7 @@ module _ (s : Situation) (sound : IsSound s) where
         (λ (f g : Landing). Separation f.flight.callsign g.flight.callsign) all pair_fits has
 
     listed_fits : (d : Landing) (c : Callsign) → IsKnown d → length c ≤ 8 → Fits (Precedence c d.flight.callsign)
-    listed_fits d c k short = let b = k.name in let w = two_texts c d.flight.callsign in omega (arith, short, b, w)
+    listed_fits d c k short = omega (arith, two_texts c d.flight.callsign)
 
     -- a finding for each landing of the callsign at most
     listed_few : (d : Landing) (c : Callsign) → IsKnown d → (fs : List Landing) → All IsKnown fs
@@ -309,97 +289,84 @@ module _ (s : Situation) (sound : IsSound s) where
             | inr behind ↦ rw behind (
                 let name : length c ≤ 8 = subst (λ (x : Callsign). length x ≤ 8)
                 (same_name f.flight.callsign c same) (All-head IsKnown f fs h).name in
-                let one = listed_fits d c k name in
                 let both = more (Precedence c d.flight.callsign) (listed_late fs d c) in
-                omega (arith, rest, one, both))
+                omega (arith, listed_fits d c k name))
           ])
           | inr other ↦ rw other rest
         ]
 
     listed_short : (d : Landing) (c : Callsign) → IsKnown d → length (findings_text (listed_late all d c)) ≤ 30
-    listed_short d c k = let each = listed_few d c k all has in let one = once c in omega (arith, each, one)
+    listed_short d c k = omega (arith, listed_few d c k all has, once c)
 
     late_of : (d : Landing) → IsKnown d → length (findings_text (flat_map (listed_late all d) d.flight.after)) ≤ 120
     late_of d k =
-        let each = flat_short (λ (c : Callsign). ⊤) 30 (listed_late all d) d.flight.after
-        (λ c t. listed_short d c k) (λ i c lt. tt) in
-        let names = k.after in
-        omega (arith, each, names)
+        omega (
+          arith,
+          flat_short (λ (c : Callsign). ⊤) 30 (listed_late all d) d.flight.after
+              (λ c t. listed_short d c k) (λ i c lt. tt),
+        )
 
     late_short : length (findings_text (late all)) ≤ 120 * length all
     late_short =
-        let each = flat_short IsKnown 120 (λ (d : Landing). flat_map
-        (listed_late all d) d.flight.after) all late_of has in
-        omega (arith, each)
+        omega (
+          arith,
+          flat_short IsKnown 120 (λ (d : Landing). flat_map (listed_late all d) d.flight.after) all
+              late_of has,
+        )
 
     moved_short : length (findings_text (moved all)) ≤ 30 * length all
     moved_short =
         failing_short IsKnown is_kept (λ (f : Landing). Moved f.flight.callsign (unwrap_or f.frozen 0)) all
-        (λ f h failed. let name = h.name in let t = second_short (unwrap_or f.frozen 0) h.frozen in
-        let w = two_texts f.flight.callsign (decimal (unwrap_or f.frozen 0)) in omega (arith, name, t, w)) has
+        (λ f h failed. omega (
+          arith,
+          second_short (unwrap_or f.frozen 0) h.frozen,
+          two_texts f.flight.callsign (decimal (unwrap_or f.frozen 0)),
+        )) has
 
     early_short : length (findings_text (early (horizon s) all)) ≤ 30 * length all
     early_short =
         failing_short IsKnown (is_late_enough (horizon s)) (λ (f : Landing). Early f.flight.callsign) all
-        (λ f h failed. let name = one_name f.flight.callsign h.name in omega (arith, name)) has
+        (λ f h failed. omega (arith, one_name f.flight.callsign h.name)) has
 
     fewer : length (filter waits all) ≤ length all
-    fewer = let a = length-filter waits all in let b = count_by-le-length waits all in omega (arith, a, b)
+    fewer = omega (arith, length-filter waits all, count_by-le-length waits all)
 
     shift_fits : (f : Landing) → IsKnown f
         → Fits (Shift f.flight.callsign (place (filter waits all) f) (rank_among (filter waits all) f))
     shift_fits f h =
-        let waiting = filter waits all in
-        let name = h.name in
         let less = fewer in
         let p = count_by-le-length (λ (g : Landing). nat_lt g.second f.second) (filter waits all) in
         let q = count_by-le-length (λ (g : Flight). is_lt (arrival_cmp g f.flight)) (map (λ (g : Landing). g.flight)
         (filter waits all)) in
         let r = length-map (filter waits all) (λ (g : Landing). g.flight) in
-        let x = small (place (filter waits all) f) (omega (arith, few, less, p)) in
-        let y = small (rank_among (filter waits all) f) (omega (arith, few, less, q, r)) in
-        let u = length-append (decimal (place (filter waits all) f)) (codes " ") in
-        let v = length-append (decimal (place (filter waits all) f) ++ codes " ") (decimal (rank_among
-        (filter waits all) f)) in
-        let w = two_texts f.flight.callsign (decimal (place (filter waits all) f) ++ codes " " ++ decimal
-        (rank_among (filter waits all) f)) in
-        omega (arith, name, x, y, u, v, w)
+        let x = small (place (filter waits all) f) (omega arith) in
+        let y = small (rank_among (filter waits all) f) (omega arith) in
+        simp length-append (omega arith)
 
     shifted_short : length (findings_text (shifted s.aerodrome.k (filter waits all))) ≤ 30 * length all
     shifted_short =
-        let each = failing_short IsKnown (is_shift_kept s.aerodrome.k (filter waits all))
-        (λ (f : Landing). Shift f.flight.callsign (place (filter waits all) f) (rank_among (filter waits all) f))
-        (filter waits all)
-        (λ f h failed. shift_fits f h) (All-filter waits IsKnown all has) in
-        let less = fewer in
-        omega (arith, each, less)
+        omega (
+          arith,
+          fewer,
+          failing_short IsKnown (is_shift_kept s.aerodrome.k (filter waits all))
+              (λ (f : Landing). Shift f.flight.callsign (place (filter waits all) f) (rank_among (filter waits all) f))
+              (filter waits all) (λ f h failed. shift_fits f h) (All-filter waits IsKnown all has),
+        )
 
     rules_short : length (findings_text (by_rules s all)) ≤ 240 * length all + 15 * (length all * length all)
     rules_short =
-        let table = s.aerodrome.table in
-        let k = s.aerodrome.k in
-        let e = joined (early (horizon s) all) (shifted k (filter waits all)) in
-        let d = joined (moved all) (early (horizon s) all ++ shifted k (filter waits all)) in
-        let c = joined (late all) (moved all ++ (early (horizon s) all ++ shifted k (filter waits all))) in
-        let b = joined (unseparated table all) (late all ++ (moved all ++ (early (horizon s) all ++ shifted k
-        (filter waits all)))) in
-        let a = joined (closed s all) (unseparated table all ++ (late all ++ (moved all ++ (early
-        (horizon s) all ++ shifted k (filter waits all))))) in
-        let t = closed_short in
-        let u = unseparated_short in
-        let v = late_short in
-        let w = moved_short in
-        let x = early_short in
-        let y = shifted_short in
-        omega (arith, a, b, c, d, e, t, u, v, w, x, y)
+        simp joined
+        (omega (arith, closed_short, unseparated_short, late_short, moved_short, early_short, shifted_short))
 
     head_short : (b : Block) → length (findings_text (by_head s b all)) ≤ 60
     head_short b =
-        let o = objective_line in
-        let v = value_line in
-        let both = joined (other_objective b.objective s.aerodrome.objective) (other_value b.plan.value
-        (cost s.aerodrome.objective all)) in
-        omega (arith, o, v, both)
+        omega (
+          arith,
+          objective_line,
+          value_line,
+          joined (other_objective b.objective s.aerodrome.objective)
+              (other_value b.plan.value (cost s.aerodrome.objective all)),
+        )
       where
         objective_line : length (findings_text (other_objective b.objective s.aerodrome.objective)) ≤ 30
         objective_line = elim (cases_Bool (is_objective b.objective s.aerodrome.objective)) [
@@ -422,7 +389,7 @@ module _ (s : Situation) (sound : IsSound s) where
               let digits = value_short (cost s.aerodrome.objective all) low in
               let one = more (Value (cost s.aerodrome.objective all)) [] in
               let end = length-append (decimal (cost s.aerodrome.objective all)) (10 ∷ []) in
-              omega (arith, digits, one, end))
+              omega arith)
         ]
 
   -- ---- all findings of a block
@@ -434,16 +401,12 @@ module _ (s : Situation) (sound : IsSound s) where
         let ls = b.plan.landings in
         let x = failing_short (λ (a : Active). Member a s.active) (λ a. has_line ls a.flight.callsign)
         (λ (a : Active). Missing a.flight.callsign) s.active
-        (λ a m failed. let name = one_name a.flight.callsign (active_name s sound a m) in
-        omega (arith, name)) (all_from (λ (a : Active). Member a s.active) s.active (λ a m. m)) in
+        (λ a m failed. omega (arith, one_name a.flight.callsign (active_name s sound a m)))
+        (all_from (λ (a : Active). Member a s.active) s.active (λ a m. m)) in
         let y = failing_short IsTold (λ l. list_any (named l.callsign) s.active)
         (λ (l : ShownLanding). Unknown l.callsign) ls
-        (λ l h failed. let name = one_name l.callsign (callsign_short l.callsign h.callsign) in
-        omega (arith, name)) told in
-        let z = twice_short [] ls told in
-        let p = joined (unknown s.active ls) (twice ls) in
-        let q = joined (missing s.active ls) (unknown s.active ls ++ twice ls) in
-        omega (arith, x, y, z, p, q)
+        (λ l h failed. omega (arith, one_name l.callsign (callsign_short l.callsign h.callsign))) told in
+        simp joined (omega (arith, x, y, twice_short [] ls told))
 
     line_short : twice b.plan.landings ≡ []
         → length (findings_text (by_line s b)) ≤ 60 + 300 * length b.plan.landings + 15 *
@@ -456,21 +419,20 @@ module _ (s : Situation) (sound : IsSound s) where
         let all = map landing_of found in
         let as_many = length-map found landing_of in
         let little : length all ≤ most_flights = omega (arith, fewer, as_many, few) in
-        let once : (c : Callsign) → landings_named c all ≤ 1 = λ c. (let one = one_line [] ls c none in
-        let of_them = found_named c ls in omega (arith, one, of_them)) in
+        let once : (c : Callsign) → landings_named c all ≤ 1 = λ c.
+        (omega (arith, one_line [] ls c none, found_named c ls)) in
         let rules = rules_short all (known_all found are.0) little once in
         let head = head_short all (known_all found are.0) little once b in
         let order = disordered_short ls few in
         let marks = failing_short IsFound is_marked (λ (x : ShownLanding × Active). Mark x.0.callsign) found
-        (λ x h failed. let name = one_name x.0.callsign (callsign_short x.0.callsign h.line.callsign) in
-        omega (arith, name)) are.0 in
+        (λ x h failed. omega (arith, one_name x.0.callsign (callsign_short x.0.callsign h.line.callsign))) are.0 in
         let r = joined (by_rules s all) (by_head s b all) in
         let q = joined (mismarked found) (by_rules s all ++ by_head s b all) in
         let p = joined (disordered ls) (mismarked found ++ (by_rules s all ++ by_head s b all)) in
         let less : length all ≤ length ls = omega (arith, fewer, as_many) in
         let across = mul-le-mul_right (length all) less in
         let down = mul-le-mul_left (length ls) less in
-        omega (arith, rules, head, order, marks, p, q, r, less, across, down, fewer)
+        omega arith
 
     -- none by name, so none that stands twice
     none_twice : (xs ys zs : List Finding) → xs ++ (ys ++ zs) ≡ [] → zs ≡ []
@@ -490,7 +452,9 @@ module _ (s : Situation) (sound : IsSound s) where
             ≤ 60 + 30 * length s.active + 300 * length b.plan.landings + 15 *
             (length b.plan.landings * length b.plan.landings)
         go [] e h =
-            let other = line_short (none_twice (missing s.active b.plan.landings) (unknown s.active b.plan.landings)
-            (twice b.plan.landings) e) in
-            omega (arith, other)
+            omega (
+              arith,
+              line_short (none_twice (missing s.active b.plan.landings) (unknown s.active b.plan.landings)
+                  (twice b.plan.landings) e),
+            )
         go (x ∷ xs) e h = omega (arith, h)

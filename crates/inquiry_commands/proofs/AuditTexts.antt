@@ -1,6 +1,5 @@
 -- No finding is printed as the line that nothing is found; how long the text of all findings is.
-use Rattle.std.proofs.Common.{◌≡◌, ◌≢◌, ◌≤◌, ℕ, ◌+◌, List, [], ◌∷◌, ◌++◌, length, get_or, map, Ok}
-use Rattle.std.proofs.Common.{refl, sym, ap, ◌∙◌, arith}
+use Rattle.std.proofs.Common.{◌≡◌, ◌≢◌, ◌≤◌, ℕ, List, [], ◌∷◌, ◌++◌, length, get_or, map, Ok, refl, sym, ap, ◌∙◌, arith}
 use Rattle.std.specs.Prelude.{◌↔◌, codes}
 use Rattle.landing_rules.specs.Text.{line}
 use Rattle.landing_rules.specs.Audit.{Closed, Early, Finding, Mark, Missing, Moved, Order, OtherObjective, Precedence}
@@ -65,6 +64,5 @@ audit_short a f p text answer x =
     let s = opened x.aerodrome x.flights in
     let lines = text_short s x.third x.holds.sound (plan_told p x.third x.third_read) in
     let active = as_many x.aerodrome x.flights s refl in
-    let long = ap length x.holds.prints in
     of_three _ a f p _ x (λ r q t. length text ≤ audit_bound (count_in q) (line_count_of t))
-    (omega (arith, lines, active, long))
+    (omega (arith, lines, active, ap length x.holds.prints))

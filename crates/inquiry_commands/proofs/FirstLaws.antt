@@ -1,15 +1,13 @@
 -- From the clause of a printed first plan to the laws of its text.
-use Rattle.std.proofs.Common.{◌≡◌, ◌≤◌, Option, Some, None, length, map, refl, sym, ap, ap₂, subst, ◌∙◌, arith}
+use Rattle.std.proofs.Common.{◌≡◌, ◌≤◌, Option, Some, None, length, map, refl, sym, ap, subst, ◌∙◌, arith}
 use Rattle.std.specs.Prelude.{option_map}
 use Rattle.landing_rules.specs.Flights.{Situation, Schedule}
 use Rattle.landing_rules.specs.Rules.{objective}
 use Rattle.landing_rules.specs.Events.{IsPlanShown, opening_situation}
 use Rattle.landing_rules.specs.FirstBest.{IsFirstPlan}
-use Rattle.landing_rules.specs.Text.{lines_text, plan_lines}
 use Rattle.landing_joint.specs.FirstBestLaws.{FirstBestObjectiveLaw, FirstPlanIsOneLaw, FirstPlanIsShownLaw}
 use Rattle.arrivals.specs.Seen.{flight_of}
 use Rattle.sequencer.specs.Opened.{opening_of}
-use Rattle.openings.specs.Plan.{answer_of}
 use Rattle.endings.specs.shared.Files.{same_two}
 use Rattle.openings.specs.shared.OpenedFlights.{as_many}
 use Rattle.text_bounds.specs.Blocks.{BlockIsBoundedLaw, block_bound}
@@ -25,10 +23,8 @@ text_is_one law a f text other answer another p q =
     let plan : here.block.plan ≡ there.block.plan =
     law here.state.situation here.block.plan there.block.plan here.opened.sound.situation here.block.first
     (subst (λ (x : Situation). IsFirstPlan x there.block.plan) (sym s) there.block.first) in (
-      here.block.prints ∙ ap₂ (λ (x : Situation) (y : Option Schedule). lines_text
-          (plan_lines (record { situation = x; plan = y }))) s plan
-          ∙ sym there.block.prints,
-      here.block.answers ∙ ap answer_of plan ∙ sym there.block.answers,
+      cc (here.block.prints, there.block.prints),
+      cc (here.block.answers, there.block.answers),
     )
 
 -- a first plan costs what a plan costs that may be shown

@@ -1,6 +1,6 @@
 -- The landing lines of a plan file are at most 500, and hold callsigns and seconds of the two days.
-use Rattle.std.proofs.Common.{◌≡◌, ℕ, ◌+◌, ◌≤◌, inl, inr, List, [], ◌∷◌, ◌++◌, length, true, Bool, arith, Option, Some}
-use Rattle.std.proofs.Common.{None, Result, Ok, Err, refl, ap, subst}
+use Rattle.std.proofs.Common.{◌≡◌, ℕ, ◌+◌, ◌≤◌, inl, inr, List, [], ◌∷◌, ◌++◌, length, true, arith, Option, Some, None}
+use Rattle.std.proofs.Common.{Result, Ok, Err, refl, ap, subst}
 use Rattle.std.specs.Prelude.{All, bytes_eq, codes, nat_lt, option_and_then, option_map, ◌==◌}
 use Rattle.std.specs.Result.{result_ok}
 use Rattle.std.proofs.lemmas.Bool.{cases_Bool}
@@ -14,14 +14,12 @@ use Rattle.cps_base.specs.Limits.{most_flights}
 use Rattle.landing_rules.specs.Rules.{last_second}
 use Rattle.landing_rules.specs.Text.{ShownLanding}
 use Rattle.plan_file.specs.declared.block.Block.{Block}
-use Rattle.plan_file.specs.declared.plan.PlanFault.{PlanFault}
 use Rattle.plan_file.specs.declared.plan.PlanText.{PlanText}
 use Rattle.plan_file.specs.declared.plan.PlanText.TheVariants as said
-use Rattle.plan_file.specs.Lines.{landing_by, landing_from, landing_in, landing_with, mark_in}
+use Rattle.plan_file.specs.Lines.{landing_by, landing_from, landing_in, landing_with, mark_in, head_in}
 use Rattle.plan_file.specs.Reading.{body_lines, line_in, lines_in, nothing_behind, or_fault, plan_behind, plan_by}
 use Rattle.plan_file.specs.Reading.{plan_of, plan_with}
 use Rattle.landing_rules.specs.declared.objective.Objective.{Objective}
-use Rattle.plan_file.specs.Lines.{head_in}
 use Rattle.texts.specs.Parts.{callsign_in, number_in, parts}
 use Rattle.text_bounds.specs.shared.Numbers.{in_most}
 
@@ -45,9 +43,8 @@ bind_ok (Err d) f y e = absurd (cc e)
 
 named : (text c : List ℕ) → callsign_in text ≡ Some c → is_callsign c ≡ true
 named text c e = elim (cases_Bool (is_callsign text)) [
-  | inl here ↦ (let w : Some text ≡ Some c = rw here at e in
-      subst (λ (x : List ℕ). is_callsign x ≡ true) (same_Some text c w) here)
-  | inr other ↦ (let w : None ≡ Some c = rw other at e in absurd (cc w))
+  | inl here ↦ subst (λ (x : List ℕ). is_callsign x ≡ true) (same_Some text c (rw here at e)) here
+  | inr other ↦ absurd (cc (rw other at e))
 ]
 
 from_told : (callsign second mark : List ℕ) (l : ShownLanding) → landing_from callsign second mark ≡ Some l → IsTold l
@@ -56,9 +53,7 @@ from_told callsign second mark l e =
     let c = bind_some _ (callsign_in callsign) l e in
     let t = bind_some _ (number_in second 0 last_second) l c.2 in
     let f = map_some (landing_with c.0 t.0) (mark_in mark) l t.2 in
-    let made : IsTold (landing_with c.0 t.0 f.0) =
-    record { callsign = named callsign c.0 c.1; second = in_most second 0 last_second t.0 t.1 } in
-    subst IsTold f.1 made
+    subst IsTold f.1 (record { callsign = named callsign c.0 c.1; second = in_most second 0 last_second t.0 t.1 })
 
 by_told : (fields : List (List ℕ)) (l : ShownLanding) → landing_by fields ≡ Some l → IsTold l
 unfolding landing_by
@@ -68,7 +63,7 @@ by_told (a ∷ b ∷ []) l e = absurd (cc e)
 by_told (a ∷ b ∷ c ∷ []) l e = absurd (cc e)
 by_told (a ∷ b ∷ c ∷ d ∷ []) l e = elim (cases_Bool (bytes_eq a (codes "land"))) [
   | inl here ↦ from_told b c d l (rw here at e)
-  | inr other ↦ (let w : None ≡ Some l = rw other at e in absurd (cc w))
+  | inr other ↦ absurd (cc (rw other at e))
 ]
 by_told (a ∷ b ∷ c ∷ d ∷ x ∷ more) l e = absurd (cc e)
 
@@ -76,9 +71,7 @@ line_told : (n : ℕ) (text : List ℕ) (l : ShownLanding) → line_in n text �
 unfolding line_in landing_in
 line_told n text l e = elim (cases_Bool (nat_lt (most_flights + 1) n)) [
   | inl many ↦ absurd (cc (rw many at e))
-  | inr few ↦ (
-      let w : or_fault n (landing_by (parts 32 text)) ≡ Ok l = rw few at e in
-      (go (landing_by (parts 32 text)) (by_told (parts 32 text)) w, grind (arith, nat_tests, few)))
+  | inr few ↦ (go (landing_by (parts 32 text)) (by_told (parts 32 text)) (rw few at e), grind (arith, nat_tests, few))
 ]
   where
     go : (o : Option ShownLanding) → ((x : ShownLanding) → o ≡ Some x → IsTold x) → or_fault n o ≡ Ok l → IsTold l
@@ -94,7 +87,7 @@ lines_told : (n : ℕ) (before : List ShownLanding) (text : List ℕ) (rest : Li
     → n ≡ length before + 2 → lines_in n before text rest ≡ Ok ls → AreLines ls
 unfolding lines_in
 lines_told n before text [] ls all count e = elim (cases_Bool (length text == 0)) [
-  | inl last ↦ (let w : Ok before ≡ Ok ls = rw last at e in subst AreLines (same_Some before ls (ap result_ok w)) all)
+  | inl last ↦ subst AreLines (same_Some before ls (ap result_ok (rw last at e))) all
   | inr other ↦ absurd (cc (rw other at e))
 ]
 lines_told n before text (next ∷ rest) ls all count e =
@@ -104,10 +97,9 @@ lines_told n before text (next ∷ rest) ls all count e =
     let more = length-append before (l.0 ∷ []) in
     lines_told (n + 1) (before ++ l.0 ∷ []) next rest ls (
       All-append IsTold before (l.0 ∷ []) all.0 (All-cons IsTold l.0 [] one.0 (All-nil IsTold)),
-      omega
-          (arith, count, fits, more),
+      omega arith,
     )
-    (omega (arith, count, more)) l.2
+    (omega arith) l.2
 
 body_told : (rest : List (List ℕ)) (ls : List ShownLanding) → body_lines rest ≡ Ok ls → AreLines ls
 body_told [] ls e = absurd (cc e)
@@ -121,8 +113,7 @@ AreTold (said.Block b) = AreLines b.lines
 nothing_told : (rest : List (List ℕ)) (p : PlanText) → nothing_behind rest ≡ Ok p → AreTold p
 nothing_told [] p e = absurd (cc e)
 nothing_told (text ∷ []) p e = elim (cases_Bool (length text == 0)) [
-  | inl last ↦ (let w : Ok said.Nothing ≡ Ok p = rw last at e in
-      subst AreTold (same_Some said.Nothing p (ap result_ok w)) tt)
+  | inl last ↦ subst AreTold (same_Some said.Nothing p (ap result_ok (rw last at e))) tt
   | inr other ↦ absurd (cc (rw other at e))
 ]
 nothing_told (text ∷ next ∷ rest) p e = absurd (cc e)

@@ -1,10 +1,11 @@
 -- From the clauses of printed outcomes to how long their text is, and that it is one.
-use Rattle.std.proofs.Common.{◌≡◌, ℕ, ◌+◌, ◌*◌, ◌≤◌, inl, inr, List, [], ◌∷◌, ◌++◌, length, Option, Some, None}
-use Rattle.std.proofs.Common.{refl, sym, ap, subst, ◌∙◌, arith}
-use Rattle.std.specs.Prelude.{All, decimal, nat_lt, option_map}
+use Rattle.std.proofs.Common.{◌≡◌, ℕ, ◌+◌, ◌*◌, ◌≤◌, inl, inr, List, [], ◌∷◌, length, Option, Some, None, refl, sym, ap}
+use Rattle.std.proofs.Common.{subst, ◌∙◌, arith}
+use Rattle.std.specs.Prelude.{All, nat_lt, option_map}
 use Rattle.std.specs.List.{AllZip}
 use Rattle.std.proofs.lemmas.Bool.{cases_Bool}
 use Rattle.std.proofs.lemmas.List.{length-append}
+use Rattle.std.proofs.lemmas.Option.{same_Some}
 use Rattle.std.proofs.lemmas.List.Elements.{All-head, All-tail}
 use Rattle.landing_rules.specs.Events as rules
 use Rattle.landing_rules.specs.Flights.{Active, Situation}
@@ -43,45 +44,36 @@ clock_in_days : (clock : Option ℕ) → IsClock clock → IsInDays clock
 clock_in_days None h = tt
 clock_in_days (Some now) h = h
 
+-- the words of a refusal have at most 30 bytes
+abbrev IsShort : TrialRefusal → Type 0
+IsShort r = length (cause_words r) ≤ 30
+
 place_short : (k i : ℕ) (ps : List PassedCount) (r : TrialRefusal) → i + length ps ≤ most_waiting + 1
-    → option_map refused.PassedAbove (first_above k i ps) ≡ Some r → length (cause_words r) ≤ 30
+    → option_map refused.PassedAbove (first_above k i ps) ≡ Some r → IsShort r
 place_short k i [] r few e = absurd (cc e)
 place_short k i (p ∷ ps) r few e = elim (cases_Bool (nat_lt k p.count)) [
   | inl above ↦
-      (let w : Some (refused.PassedAbove i) ≡ Some r = rw above at e in
-      let v : refused.PassedAbove i ≡ r = cc in
-      let digits = rank_short i (omega (arith, few)) in
-      subst (λ (x : TrialRefusal). length (cause_words x) ≤ 30) v (omega (arith, digits)))
-  | inr below ↦
-      (let w : option_map refused.PassedAbove (first_above k (i + 1) ps) ≡ Some r = rw below at e in
-      place_short k (i + 1) ps r (omega (arith, few)) w)
+      subst IsShort (same_Some (refused.PassedAbove i) r (rw above at e)) (omega (arith, rank_short i (omega arith)))
+  | inr below ↦ place_short k (i + 1) ps r (omega arith) (rw below at e)
 ]
 
 shift_short : (a : Aerodrome) (k : ℕ) (r : TrialRefusal) → IsInRange a → k ≤ 3 → shift_refusal a k ≡ Some r
-    → length (cause_words r) ≤ 30
+    → IsShort r
 shift_short a k r range small e = elim (cases_Bool (is_beyond a.version k a.objective)) [
   | inl beyond ↦
-      (let w : Some (refused.DelayShift k) ≡ Some r = rw beyond at e in
-      let v : refused.DelayShift k ≡ r = cc in
-      let digits = rank_short k (omega (arith, small)) in
-      subst (λ (x : TrialRefusal). length (cause_words x) ≤ 30) v (omega (arith, digits)))
-  | inr within ↦
-      (let w : option_map refused.PassedAbove (first_above k 1 a.passed) ≡ Some r = rw within at e in
-      let few = range.passed.few in
-      place_short k 1 a.passed r (omega (arith, few)) w)
+      subst IsShort (same_Some (refused.DelayShift k) r (rw beyond at e)) (omega (arith, rank_short k (omega arith)))
+  | inr within ↦ place_short k 1 a.passed r (omega (arith, range.passed.few)) (rw within at e)
 ]
 
 -- the refusal of a closure is in the words of its event
 closure_short : (x : Option rules.Refusal) (r : TrialRefusal)
     → ((y : rules.Refusal) → x ≡ Some y → length (cause y) ≤ 30)
-    → closure_refusal x ≡ Some r → length (cause_words r) ≤ 30
+    → closure_refusal x ≡ Some r → IsShort r
 closure_short None r h e = absurd (cc e)
 closure_short (Some (rules.CoversFrozen c t)) r h e =
-    let v : refused.CoversFrozen c t ≡ r = cc in
-    subst (λ (x : TrialRefusal). length (cause_words x) ≤ 30) v (h (rules.CoversFrozen c t) refl)
+    subst IsShort (same_Some (refused.CoversFrozen c t) r e) (h (rules.CoversFrozen c t) refl)
 closure_short (Some rules.TooManyClosures) r h e =
-    let v : refused.TooManyClosures ≡ r = cc in
-    subst (λ (x : TrialRefusal). length (cause_words x) ≤ 30) v (h rules.TooManyClosures refl)
+    subst IsShort (same_Some refused.TooManyClosures r e) (h rules.TooManyClosures refl)
 closure_short (Some other) r h e = absurd (cc e)
 
 -- ---- outcomes
@@ -92,22 +84,20 @@ AreFewGood s = All (λ (a : Active). IsGoodFlight a.flight) s.active × (length 
 
 least_short : (s : Situation) (o : Outcome) → AreFewGood s → HasLeast s o → length (outcome_words o) ≤ 10
 least_short s (Value v) good (t, best, is) =
-    let low = schedule_low s.aerodrome.objective s.active t good.0 good.1 best.feasible.1.in_days in
-    value_short v (omega (arith, low, is))
+    value_short v
+    (omega (arith, is, schedule_low s.aerodrome.objective s.active t good.0 good.1 best.feasible.1.in_days))
 least_short s Infeasible good h = omega arith
 least_short s (Refused r) good h = absurd h
 
 by_short : (s : Situation) (o : Option TrialRefusal) (outcome : Outcome) → AreFewGood s
-    → ((r : TrialRefusal) → o ≡ Some r → length (cause_words r) ≤ 30) → IsOutcomeBy s o outcome
+    → ((r : TrialRefusal) → o ≡ Some r → IsShort r) → IsOutcomeBy s o outcome
     → length (outcome_words outcome) ≤ 38
-by_short s None outcome good h is = let a = least_short s outcome good is in omega (arith, a)
-by_short s (Some r) outcome good h is =
-    let a = h r refl in
-    subst (λ (o : Outcome). length (outcome_words o) ≤ 38) (sym is) (omega (arith, a))
+by_short s None outcome good h is = omega (arith, least_short s outcome good is)
+by_short s (Some r) outcome good h is = rw is (omega (arith, h r refl))
 
 module _ (a : Aerodrome) (fs : List Flight) (range : IsInRange a) (sound : IsSound (opened a fs)) where
   cause_short : (trial : Trial) (r : TrialRefusal) → IsGood trial → refusal a fs trial ≡ Some r
-      → length (cause_words r) ≤ 30
+      → IsShort r
   cause_short (Shift k) r good e = shift_short a k r range good e
   cause_short (Close from to) r good e =
       closure_short (rules.refusal (opened a fs) (rules.Close (from, to))) r
@@ -128,12 +118,7 @@ module _ (a : Aerodrome) (fs : List Flight) (range : IsInRange a) (sound : IsSou
       → IsOutcomeOf a fs trial outcome
       → length (trial_line i outcome) ≤ 48
   line_short i trial outcome few good is =
-      let digits = rank_short i few in
-      let words = outcome_short trial outcome good is in
-      let x = length-append (decimal i) (32 ∷ []) in
-      let y = length-append (decimal i ++ 32 ∷ []) (outcome_words outcome) in
-      let z = length-append (decimal i ++ 32 ∷ [] ++ outcome_words outcome) (10 ∷ []) in
-      omega (arith, digits, words, x, y, z)
+      simp length-append (omega (arith, rank_short i few, outcome_short trial outcome good is))
 
   lines_short : (i : ℕ) (trials : List Trial) (outcomes : List Outcome) → i + length trials ≤ most_waiting
       → All IsGood trials
@@ -142,20 +127,19 @@ module _ (a : Aerodrome) (fs : List Flight) (range : IsInRange a) (sound : IsSou
   lines_short i [] (o ∷ outcomes) few good are = absurd are
   lines_short i (t ∷ trials) [] few good are = absurd are
   lines_short i (t ∷ trials) (o ∷ outcomes) few good are =
-      let one = line_short i t o (omega (arith, few)) (All-head IsGood t trials good) are.0 in
-      let rest = lines_short (i + 1) trials outcomes (omega (arith, few)) (All-tail IsGood t trials good) are.1 in
-      let both = length-append (trial_line i o) (trial_lines (i + 1) outcomes) in
-      omega (arith, one, rest, both)
+      omega (
+        arith,
+        line_short i t o (omega arith) (All-head IsGood t trials good) are.0,
+        lines_short (i + 1) trials outcomes (omega arith) (All-tail IsGood t trials good) are.1,
+        length-append (trial_line i o) (trial_lines (i + 1) outcomes),
+      )
 
   pub outcomes_short : (trials : List Trial) (outcomes : List Outcome) → All IsGood trials → length trials ≤ most_trials
       → AreOutcomes a fs trials outcomes → length (outcomes_text outcomes) ≤ outcomes_bound (length trials)
   outcomes_short trials [] good few are = absurd are
   outcomes_short trials (base ∷ rest) good few are =
       let first = least_short (opened a fs) base (sound.flights, sound.few_active) are.0 in
-      let lines = lines_short 1 trials rest (omega (arith, few)) good are.1 in
-      let x = length-append (outcome_words base) (10 ∷ []) in
-      let y = length-append (outcome_words base ++ 10 ∷ []) (trial_lines 1 rest) in
-      omega (arith, first, lines, x, y)
+      simp length-append (omega (arith, lines_short 1 trials rest (omega arith) good are.1))
 
 -- ---- texts
 

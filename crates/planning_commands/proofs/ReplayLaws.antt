@@ -1,9 +1,9 @@
 -- From the clause of a printed replay to the laws of its text.
-use Rattle.std.proofs.Common.{◌≡◌, List, [], ◌∷◌, Option, None, map, length, sym, subst, ◌∙◌}
+use Rattle.std.proofs.Common.{◌≡◌, List, [], ◌∷◌, map, length, sym, subst, ◌∙◌}
 use Rattle.std.specs.Prelude.{All}
 use Rattle.std.proofs.lemmas.List.Elements.{All-head, All-tail}
 use Rattle.std.proofs.Math.Seq.{take-length}
-use Rattle.landing_rules.specs.Events.{State, Event, Refusal, Clock, Answered, Opening, IsOpeningState, Run, Step}
+use Rattle.landing_rules.specs.Events.{State, Event, Answered, Opening, IsOpeningState, Run, Step}
 use Rattle.landing_rules.specs.Flights.{Flight}
 use Rattle.landing_rules.specs.Sound.{IsSound, IsSoundState, IsGoodEvent}
 use Rattle.landing_joint.specs.ClockLaws.{ClockShowsPlanLaw}
@@ -45,9 +45,7 @@ printed_sound law a f l text x p =
 no_dearer : ClockShowsPlanLaw → (old : State) (e : Event) (a : Answered) → IsSoundState old
     → Step old e a.answer a.state → IsNoDearerAfterClock old e a
 no_dearer law old e a sound step now t is accepted shown =
-    let by : Step old (Clock now) None a.state = subst
-    (λ (answer : Option Refusal). Step old (Clock now) answer a.state) accepted
-    (subst (λ (event : Event). Step old event a.answer a.state) is step) in
+    let by = rw (is, accepted) at step in
     law old a.state now t sound shown (sym by.answered) by.effect
 
 -- each step of a run from a sound state

@@ -3,7 +3,6 @@ use Rattle.std.proofs.Common.{◌≡◌, ℕ, List, [], ◌∷◌, ◌++◌, Opt
 use Rattle.std.specs.Prelude.{option_map, take}
 use Rattle.landing_rules.specs.Events.{Answered, IsPlanShown, State}
 use Rattle.landing_rules.specs.Flights.{Schedule, Situation}
-use Rattle.landing_rules.specs.Problem.{IsProblemOf}
 use Rattle.landing_rules.specs.Rules.{IsBest, objective}
 use Rattle.landing_rules.specs.Text.{Bytes, block_lines, head_words, lines_text, shown_plan}
 use Rattle.plan_text.specs.Trial.{trial_head, trial_text}
@@ -26,9 +25,7 @@ first_line s plan = take 1 (block_lines s.aerodrome.objective (option_map (shown
 
 least : (s : Situation) (t u : Schedule) → IsBest s t → IsBest s u → objective s t ≡ objective s u
 least s t u a b =
-    let low = a.least u b.feasible in
-    let high = b.least t a.feasible in
-    omega (arith, low, high)
+    omega (arith, a.least u b.feasible, b.least t a.feasible)
 
 -- it is one, whichever plan is shown
 one_line : (s : Situation) (plan other : Option Schedule) → IsPlanShown s plan → IsPlanShown s other
@@ -45,13 +42,11 @@ sums_one : (made : Made) (n k : ℕ) (text other : List ℕ) (answer another : A
     → Sums made n k text answer → Sums made n k other another → (text ≡ other) × (answer ≡ another)
 sums_one made n k text other answer another x y =
     let one : x.state.situation ≡ y.state.situation = x.opens.situation ∙ sym y.opens.situation in
-    let problem : IsProblemOf y.state.situation x.problem =
-    subst (λ (s : Situation). IsProblemOf s x.problem) one x.problem_of in
+    let problem = rw one at x.problem_of in
     let nodes : x.nodes ≡ y.nodes =
     one_candidates y.state.situation x.problem y.problem problem y.problem_of x.nodes y.nodes
     x.candidates y.candidates in
-    let shown : IsPlanShown y.state.situation x.state.plan =
-    subst (λ (s : Situation). IsPlanShown s x.state.plan) one x.opens.shown in (
+    let shown = subst (λ (s : Situation). IsPlanShown s x.state.plan) one x.opens.shown in (
       x.prints
           ∙ ap (λ (s : Situation). summary n k s x.nodes x.state.plan) one
           ∙ ap (λ (m : ℕ). summary n k y.state.situation m x.state.plan) nodes

@@ -1,7 +1,7 @@
 -- From the clauses of what these commands print to how long it is.
 use Rattle.std.proofs.Common.{◌≡◌, ℕ, ◌+◌, ◌*◌, ◌<◌, ◌≤◌, List, [], ◌∷◌, ◌++◌, length, Option, Some, None, refl, sym}
 use Rattle.std.proofs.Common.{ap, subst, ◌∙◌, arith, inl, inr}
-use Rattle.std.specs.Prelude.{⊤, All, MatchOption, codes, decimal}
+use Rattle.std.specs.Prelude.{⊤, All, MatchOption, decimal}
 use Rattle.std.proofs.Math.Nat.{mul-le-mul_left, mul-le-mul_right}
 use Rattle.std.proofs.lemmas.Fmt.{length-decimal-le}
 use Rattle.std.proofs.lemmas.List.{length-append, length-map}
@@ -38,11 +38,9 @@ use Rattle.planning_commands.specs.TextLengths.{TrialTextIsBoundedLaw, effort_bo
 
 pub plan_text_short : BlockIsBoundedLaw → PlanTextIsBoundedLaw
 plan_text_short law a f text answer x =
-    let state = x.holds.state in
-    let block = law state x.holds.opened.sound in
-    let active = as_many x.aerodrome x.flights state.situation x.holds.opened.opens.situation in
-    let long = ap length x.holds.prints in
-    subst (λ r. length text ≤ block_bound (count_in r)) (sym x.flights_read) (omega (arith, block, active, long))
+    let active = as_many x.aerodrome x.flights x.holds.state.situation x.holds.opened.opens.situation in
+    subst (λ r. length text ≤ block_bound (count_in r)) (sym x.flights_read)
+    (omega (arith, law x.holds.state x.holds.opened.sound, active, ap length x.holds.prints))
 
 has_value : (plan : Option ShownPlan) → ((p : ShownPlan) → plan ≡ Some p → IsReadable p)
     → MatchOption plan ⊤ (λ p. p.value ≤ greatest_value)
@@ -51,13 +49,10 @@ has_value (Some p) h = (h p refl).value
 
 pub trial_text_short : TrialIsBoundedLaw → ShownPlanIsReadableLaw → TrialTextIsBoundedLaw
 trial_text_short law shown seed n k text answer few near x =
-    let state = x.state in
-    let steps = x.few in
-    let value = has_value (plan_shown state) (λ p e. shown state p x.sound e) in
-    let short = law n k x.nodes state.situation.aerodrome.objective (plan_shown state) few near (omega
-    (arith, steps)) value in
-    let long = ap length x.prints in
-    omega (arith, short, long)
+    let value = has_value (plan_shown x.state) (λ p e. shown x.state p x.sound e) in
+    let short = law n k x.nodes x.state.situation.aerodrome.objective (plan_shown x.state) few near
+    (omega (arith, x.few)) value in
+    omega (arith, short, ap length x.prints)
 
 -- ---- what was begun
 
@@ -88,11 +83,8 @@ module _ (a f l : List ℕ) (state : State) (events done rest : List rules.Event
 
   few : length done ≤ length begun.third
   few =
-      let both = length-append done rest in
-      let all = ap length split in
       let same = ap length begun.holds.events_are in
-      let each = length-map begun.third event_of in
-      omega (arith, both, all, same, each)
+      omega (arith, length-append done rest, ap length split, same, length-map begun.third event_of)
 
   counted : event_count l ≡ length begun.third
   counted = ap count_in begun.third_read
@@ -103,9 +95,7 @@ rises : (n d e : ℕ) → d ≤ e → replay_bound n d ≤ replay_bound n e
 rises n d e le =
     let less : answer_bound (most_active n d) ≤ answer_bound (most_active n e) = omega (arith, le) in
     let more : d + 1 ≤ e + 1 = omega (arith, le) in
-    let x = mul-le-mul_right (answer_bound (most_active n d)) more in
-    let y = mul-le-mul_left (e + 1) less in
-    omega (arith, x, y)
+    omega (arith, mul-le-mul_right (answer_bound (most_active n d)) more, mul-le-mul_left (e + 1) less)
 
 pub replay_text_short : ReplayIsBoundedLaw → ReplayTextIsBoundedLaw
 replay_text_short law a f l puts text x =
@@ -114,9 +104,8 @@ replay_text_short law a f l puts text x =
     let fits = few a f l x.state x.events first.done first.rest begun first.split in
     let log = begun.holds.few in
     let run : length text ≤ replay_bound (length x.state.situation.active) (length first.done) =
-    subst (λ (t : List ℕ). length t ≤ replay_bound (length x.state.situation.active) (length first.done))
-    (sym first.prints)
-    (law x.state first.done first.answers (tellable a f l x.state x.events first.done first.rest begun first.split)
+    rw first.prints (law x.state first.done first.answers
+    (tellable a f l x.state x.events first.done first.rest begun first.split)
     (good a f l x.state x.events first.done first.rest begun first.split)
     (named a f l x.state x.events first.done first.rest begun first.split)
     (omega (arith, fits, log)) first.run) in
@@ -132,20 +121,14 @@ replay_text_short law a f l puts text x =
 -- ---- efforts
 
 steps_short : (n : ℕ) → n ≤ most_steps → length (decimal n) ≤ 8
-steps_short n le = length-decimal-le 8 n (omega arith) (omega (arith, le)) (omega (arith, le))
+steps_short n le = length-decimal-le 8 n (omega arith) (omega arith) (omega arith)
 
 total_short : (n : ℕ) → n < 99999999999 → length (decimal n) ≤ 11
-total_short n lt = length-decimal-le 11 n (omega arith) (omega (arith, lt)) (omega (arith, lt))
+total_short n lt = length-decimal-le 11 n (omega arith) (omega arith) (omega arith)
 
 accepted_short : (i steps : ℕ) → i < 10000 → steps ≤ most_steps → length (answer_line i None steps) ≤ 50
 accepted_short i steps few small =
-    let number = number_short i few in
-    let digits = steps_short steps small in
-    let w = length-append (decimal i) (codes " accepted") in
-    let x = length-append (decimal i ++ codes " accepted") (codes " steps ") in
-    let y = length-append (decimal i ++ codes " accepted" ++ codes " steps ") (decimal steps) in
-    let z = length-append (decimal i ++ codes " accepted" ++ codes " steps " ++ decimal steps) (10 ∷ []) in
-    omega (arith, number, digits, w, x, y, z)
+    simp length-append (omega (arith, number_short i few, steps_short steps small))
 
 module _ (law : BlockIsBoundedLaw) (keeps : StepKeepsSoundLaw) where
   line_short : (old new : State) (e : rules.Event) (answer : Option Refusal) (i steps : ℕ) → IsTellable old
@@ -173,11 +156,9 @@ module _ (law : BlockIsBoundedLaw) (keeps : StepKeepsSoundLaw) where
       (omega (arith, few)) small run.0 in
       let rest = lines_short a.problem state events planned (i + 1) next.0 (All-tail IsGoodEvent e events own)
       (All-tail HasShortName e events names) (omega (arith, few)) run.1 are.1 in
-      let lines = rest.0 in
-      let sums = rest.1 in
       let both = length-append (answer_line i a.answered.answer a.steps) (answer_lines (i + 1) planned) in
       let more = sum_by-cons (λ (b : Planned). b.steps) a planned in
-      (omega (arith, one, lines, both), omega (arith, small, sums, more))
+      (omega (arith, one, rest.0, both), omega (arith, small, rest.1, more))
 
   pub effort_text_short : EffortTextIsBoundedLaw
   effort_text_short a f l puts text x =
@@ -192,11 +173,8 @@ module _ (law : BlockIsBoundedLaw) (keeps : StepKeepsSoundLaw) where
       (good a f l x.state x.events first.done first.rest begun first.split)
       (named a f l x.state x.events first.done first.rest begun first.split)
       (omega (arith, fits, log)) effort.plannings.run effort.plannings.steps in
-      let lines = all.0 in
-      let sums = all.1 in
-      let opening = effort.few in
-      let begins = steps_short effort.opening opening in
-      let total = total_short (effort.opening + steps_of planned) (omega (arith, fits, log, sums, opening)) in
+      let begins = steps_short effort.opening effort.few in
+      let total = total_short (effort.opening + steps_of planned) (omega (arith, fits, log, all.1, effort.few)) in
       let u = length-append (decimal effort.opening) (10 ∷ []) in
       let v = length-append (decimal (effort.opening + steps_of planned)) (10 ∷ []) in
       let y = length-append (begun_line effort.opening) (answer_lines 1 planned) in
@@ -206,6 +184,6 @@ module _ (law : BlockIsBoundedLaw) (keeps : StepKeepsSoundLaw) where
         | inr whole ↦ let same = ap length whole.2 in omega (arith, same)
       ] in
       let whole : length text ≤ effort_bound (length begun.third) = omega
-      (arith, fits, lines, begins, total, u, v, y, z, long) in
+      (arith, fits, all.0, begins, total, u, v, y, z, long) in
       subst (λ (n : ℕ). length text ≤ effort_bound n) (sym
       (counted a f l x.state x.events first.done first.rest begun first.split)) whole

@@ -56,10 +56,8 @@ pub steps_same : ShownLaws → (old : State) (event : Event) (n : ℕ) (a b : Op
 steps_same laws old event n None None s t u v h k p q i j e =
     let both = states_same laws s t (accepted_words n) u v h k (p.effect.changed ∙ sym q.effect.changed) i j e in
     (refl, both.0, both.1)
-steps_same laws old event n None (Some r) s t u v h k p q i j e = let bad : None ≡ Some r =
-    p.answered ∙ sym q.answered in absurd (cc bad)
-steps_same laws old event n (Some r) None s t u v h k p q i j e = let bad : Some r ≡ None =
-    p.answered ∙ sym q.answered in absurd (cc bad)
+steps_same laws old event n None (Some r) s t u v h k p q i j e = absurd (cc (p.answered, q.answered))
+steps_same laws old event n (Some r) None s t u v h k p q i j e = absurd (cc (p.answered, q.answered))
 steps_same laws old event n (Some r) (Some z) s t u v h k p q i j e =
     let answers : Some r ≡ Some z = p.answered ∙ sym q.answered in
     let words : lines_text (refused_words n r ∷ []) ≡ lines_text (refused_words n z ∷ []) =

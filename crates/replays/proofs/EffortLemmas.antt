@@ -1,8 +1,8 @@
 -- An effort goes on by one event, or stops there.
 use Rattle.std.proofs.Common.{◌≡◌, ℕ, ◌+◌, ◌*◌, ◌^◌, ◌<◌, ◌≤◌, List, [], ◌∷◌, ◌++◌, length, Err, inl, inr, refl, sym}
 use Rattle.std.proofs.Common.{ap, subst, ◌∙◌, arith, append_assoc, append-nil, length-append}
-use Rattle.std.specs.Prelude.{◌⊎◌, None, Some, Option, MatchOption, ⊤}
-use Rattle.cps_outside.specs.Puts.{Wrote, WrotePart, BreaksOff, StopsShort}
+use Rattle.std.specs.Prelude.{None, Some, Option, MatchOption, ⊤}
+use Rattle.cps_outside.specs.Puts.{Wrote, WrotePart, BreaksOff}
 use Rattle.cps_outside.specs.SinkState.{SinkState}
 use Rattle.landing_rules.specs.Events.{State, Event, Refusal, Step, Answered, Run}
 use Rattle.landing_rules.specs.Problem.{Problem, IsProblemOf}
@@ -109,11 +109,6 @@ goes_on old now new events from to to2 i total e rest steps d a =
     length-append d.plannings.planned (one ∷ []) in
     let sum_more : steps_of (d.plannings.planned ++ one ∷ []) ≡ steps_of d.plannings.planned + steps =
     steps-push d.plannings.planned one in
-    let so_far = d.few in
-    let few = a.plans.few in
-    let number = d.number in
-    let as_many = d.as_many in
-    let total_is = d.total_is in
     record {
       done = d.done ++ e ∷ [];
       split = append_assoc d.done (e ∷ []) rest ∙ d.split;
@@ -122,65 +117,61 @@ goes_on old now new events from to to2 i total e rest steps d a =
           ∙ last_state-push old.state (answers_of d.plannings.planned) one.answered);
       problem = sym (last_problem-push old.problem d.plannings.planned one);
       held = a.plans.held;
-      number = omega (arith, number, planned_more);
-      as_many = omega (arith, as_many, planned_more, done_more);
-      total_is = omega (arith, total_is, sum_more);
-      few = rw done_more (omega (arith, so_far, few));
+      number = omega (arith, d.number, planned_more);
+      as_many = omega (arith, d.as_many, planned_more, done_more);
+      total_is = omega (arith, d.total_is, sum_more);
+      few = rw done_more (omega (arith, d.few, a.plans.few));
       written = subst (λ (n : ℕ). Wrote n from to2 (answer_lines 1 (d.plannings.planned ++ one ∷ []))) (sym done_more)
           (subst (λ (t : Bytes). Wrote (length d.done + 1) from to2 t) (lines_longer i d.plannings.planned one d.number)
           (wrote_after (length d.done) 1 from to to2 (answer_lines 1 d.plannings.planned)
           (answer_line i a.answer steps) d.written a.written));
     }
 
--- the lines of the answers so far stand
-stands : (old now : Standing AnyKept) (events : List Event) (from to : SinkState) (i total : ℕ) (rest : List Event)
-    → (d : Done old events from i now rest to total)
-    → LinesStand old events (length d.done) (answer_lines 1 d.plannings.planned)
-stands old now events from to i total rest d = record {
-  done = d.done;
-  rest = rest;
-  split = d.split;
-  count = refl;
-  plannings = d.plannings;
-  prints = refl;
-}
+-- a step that stopped the effort
+module _ (old now : Standing AnyKept) (events : List Event) (from to : SinkState) (i total : ℕ) (e : Event)
+    (rest : List Event) (d : Done old events from i now (e ∷ rest) to total) where
+  -- the lines of the answers before stand
+  stands : LinesStand old events (length d.done) (answer_lines 1 d.plannings.planned)
+  stands = record {
+    done = d.done;
+    rest = e ∷ rest;
+    split = d.split;
+    count = refl;
+    plannings = d.plannings;
+    prints = refl;
+  }
 
-stops_unwritten : (old now new : Standing AnyKept) (events : List Event) (from to to2 : SinkState)
-    (i total : ℕ) (e : Event) (rest : List Event) (steps : ℕ) →
-    Done old events from i now (e ∷ rest) to total → PlansWith now new i e steps (WrotePart 0 to to2 []) →
-    BreaksOff (LinesStand old events) from to2
-unfolding longer
-stops_unwritten old now new events from to to2 i total e rest steps d a =
-    let one : Planned = one_more new i e now steps (WrotePart 0 to to2 []) a in
-    record {
-      puts = length d.done;
-      whole = answer_lines 1 d.plannings.planned;
-      last = answer_line i a.answer steps;
-      stood = inr (stands old now events from to i total (e ∷ rest) d);
-      begun = record {
-        done = d.done ++ e ∷ [];
-        rest = rest;
-        split = append_assoc d.done (e ∷ []) rest ∙ d.split;
-        count = omega (arith, length-append d.done (e ∷ []));
-        plannings = longer old now new events from to i total e rest steps (WrotePart 0 to to2 []) d a;
-        prints = lines_longer i d.plannings.planned one d.number;
-      };
-      written = failed_after (length d.done) from to to2 (answer_lines 1 d.plannings.planned)
-          (answer_line i a.answer steps) d.written a.written;
-    }
+  stops_unwritten : (new : Standing AnyKept) (to2 : SinkState) (steps : ℕ)
+      → PlansWith now new i e steps (WrotePart 0 to to2 []) → BreaksOff (LinesStand old events) from to2
+  unfolding longer
+  stops_unwritten new to2 steps a =
+      let one : Planned = one_more new i e now steps (WrotePart 0 to to2 []) a in
+      record {
+        puts = length d.done;
+        whole = answer_lines 1 d.plannings.planned;
+        last = answer_line i a.answer steps;
+        stood = inr stands;
+        begun = record {
+          done = d.done ++ e ∷ [];
+          rest = rest;
+          split = append_assoc d.done (e ∷ []) rest ∙ d.split;
+          count = omega (arith, length-append d.done (e ∷ []));
+          plannings = longer old now new events from to i total e rest steps (WrotePart 0 to to2 []) d a;
+          prints = lines_longer i d.plannings.planned one d.number;
+        };
+        written = failed_after (length d.done) from to to2 (answer_lines 1 d.plannings.planned)
+            (answer_line i a.answer steps) d.written a.written;
+      }
 
-pub stops : (s : Stop) (old now new : Standing AnyKept) (events : List Event) (from to to2 : SinkState)
-    (i total : ℕ) (e : Event) (rest : List Event) →
-    Done old events from i now (e ∷ rest) to total → StepPlans now new i e to to2 (Err s)
-    → EventsPlan old new events from to2 (Err s)
-stops stop.NotWritten old now new events from to to2 i total e rest d a =
-    stops_unwritten old now new events from to to2 i total e rest a.0 d a.1
-stops stop.NoMemory old now new events from to to2 i total e rest d a = (
-  length d.done,
-  answer_lines 1 d.plannings.planned,
-  stands old now events from to i total (e ∷ rest) d,
-  subst (λ (x : SinkState). Wrote (length d.done) from x (answer_lines 1 d.plannings.planned)) (sym a) d.written,
-)
+  pub stops : (s : Stop) (new : Standing AnyKept) (to2 : SinkState) → StepPlans now new i e to to2 (Err s)
+      → EventsPlan old new events from to2 (Err s)
+  stops stop.NotWritten new to2 a = stops_unwritten new to2 a.0 a.1
+  stops stop.NoMemory new to2 a = (
+    length d.done,
+    answer_lines 1 d.plannings.planned,
+    stands,
+    subst (λ (x : SinkState). Wrote (length d.done) from x (answer_lines 1 d.plannings.planned)) (sym a) d.written,
+  )
 
 pub ends : (old now : Standing AnyKept) (events : List Event) (from to : SinkState) (i total : ℕ) →
     Done old events from i now [] to total → AllPlan old now events total from to
@@ -294,13 +285,10 @@ module _ (old : Standing AnyKept) (events : List Event) (opening : ℕ) (of : Is
     written = part_after 1 some.puts from mid to (begun_line opening) some.whole some.last w some.written;
   }
   stops_after stop.NoMemory new from mid to w (puts, text, lines, some) =
-      let all = ap length lines.split in
-      let parts = length-append lines.done lines.rest in
-      let count = lines.count in
       inr (record {
         puts = 1 + puts;
         text = begun_line opening ++ text;
-        few = omega (arith, all, parts, count);
+        few = omega (arith, ap length lines.split, length-append lines.done lines.rest, lines.count);
         stood = counts puts text lines;
         written = wrote_after 1 puts from mid to (begun_line opening) text w some;
       })

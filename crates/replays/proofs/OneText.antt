@@ -1,6 +1,5 @@
 -- The steps of the plannings of a run are one list, whichever problems of its situations were planned.
-use Rattle.std.proofs.Common.{◌≡◌, ℕ, ◌+◌, List, [], ◌∷◌, ◌++◌, Option, None, Some, refl, sym, ap, ap₂, subst, ◌∙◌}
-use Rattle.std.proofs.Common.{arith}
+use Rattle.std.proofs.Common.{◌≡◌, ℕ, ◌+◌, List, [], ◌∷◌, ◌++◌, Option, None, Some, refl, sym, ap, ap₂, ◌∙◌, arith}
 use Rattle.std.proofs.lemmas.List.Sums.{sum_by-cons}
 use Rattle.landing_rules.specs.Events.{Answered, Refusal}
 use Rattle.landing_rules.specs.Flights.{Situation}
@@ -9,15 +8,6 @@ use Rattle.replays.specs.Efforts.{ArePlanned, IsPlanned, Planned, TakesSteps, an
 use Rattle.replays.specs.Efforts.{begun_line, steps_of, total_line}
 use Rattle.replays.specs.OneText.{StepsAreOneLaw}
 use Rattle.replays.specs.shared.OneSteps.{one_begun, one_step}
-
-no_answer : (a : Answered) (rest : List Answered) → [] ≡ a ∷ rest → ⊥
-no_answer a rest e = cc
-
-first_answer : (a b : Answered) (xs ys : List Answered) → (a ∷ xs) ≡ (b ∷ ys) → a ≡ b
-first_answer a b xs ys e = cc
-
-later_answers : (a b : Answered) (xs ys : List Answered) → (a ∷ xs) ≡ (b ∷ ys) → xs ≡ ys
-later_answers a b xs ys e = cc
 
 module _ (s t : Situation) (held other p q : Problem) (h : IsProblemOf s held) (i : IsProblemOf s other)
     (j : IsProblemOf t p) (k : IsProblemOf t q) where
@@ -29,12 +19,8 @@ module _ (s t : Situation) (held other p q : Problem) (h : IsProblemOf s held) (
 one_planned : (s : Situation) (held other : Problem) → IsProblemOf s held → IsProblemOf s other → (x y : Planned)
     → IsPlanned held x → IsPlanned other y → x.answered ≡ y.answered → x.steps ≡ y.steps
 one_planned s held other h i x y a b e =
-    let there : IsProblemOf x.answered.state.situation y.problem =
-    subst (λ (z : Answered). IsProblemOf z.state.situation y.problem) (sym e) b.problem_of in
-    let taken : TakesSteps other x.answered.answer y.problem y.steps =
-    subst (λ (z : Answered). TakesSteps other z.answer y.problem y.steps) (sym e) b.steps in
-    one_taken s x.answered.state.situation held other x.problem y.problem h i a.problem_of there
-    x.answered.answer x.steps y.steps a.steps taken
+    one_taken s x.answered.state.situation held other x.problem y.problem h i a.problem_of (rw (← e) at b.problem_of)
+    x.answered.answer x.steps y.steps a.steps (rw (← e) at b.steps)
 
 -- the steps of all, and their lines
 one_lines : (s : Situation) (held other : Problem) → IsProblemOf s held → IsProblemOf s other
@@ -42,22 +28,20 @@ one_lines : (s : Situation) (held other : Problem) → IsProblemOf s held → Is
     → ArePlanned held xs → ArePlanned other ys → answers_of xs ≡ answers_of ys → (answer_lines n xs ≡ answer_lines n ys)
     × (steps_of xs ≡ steps_of ys)
 one_lines s held other h i n [] [] a b e = (refl, refl)
-one_lines s held other h i n [] (y ∷ ys) a b e = absurd (no_answer _ _ e)
-one_lines s held other h i n (x ∷ xs) [] a b e = absurd (no_answer _ _ (sym e))
+one_lines s held other h i n [] (y ∷ ys) a b e = absurd (cc e)
+one_lines s held other h i n (x ∷ xs) [] a b e = absurd (cc e)
 one_lines s held other h i n (x ∷ xs) (y ∷ ys) a b e =
-    let same : x.answered ≡ y.answered = first_answer x.answered y.answered (answers_of xs) (answers_of ys) e in
-    let later : answers_of xs ≡ answers_of ys = later_answers x.answered y.answered (answers_of xs) (answers_of ys) e in
+    let same : x.answered ≡ y.answered = cc e in
+    let later : answers_of xs ≡ answers_of ys = cc e in
     let steps : x.steps ≡ y.steps = one_planned s held other h i x y a.0 b.0 same in
-    let there : IsProblemOf x.answered.state.situation y.problem =
-    subst (λ (z : Answered). IsProblemOf z.state.situation y.problem) (sym same) b.0.problem_of in
+    let there = rw (← same) at b.0.problem_of in
     let rest = one_lines x.answered.state.situation x.problem y.problem a.0.problem_of there (n + 1) xs ys
     a.1 b.1 later in
     let line : answer_line n x.answered.answer x.steps ≡ answer_line n y.answered.answer y.steps =
     ap₂ (λ (o : Option Refusal) (m : ℕ). answer_line n o m) (ap (λ (z : Answered). z.answer) same) steps in
     let one = sum_by-cons (λ (z : Planned). z.steps) x xs in
     let two = sum_by-cons (λ (z : Planned). z.steps) y ys in
-    let total = rest.1 in
-    (ap₂ (λ (u v : List ℕ). u ++ v) line rest.0, omega (arith, one, two, steps, total))
+    (ap₂ (λ (u v : List ℕ). u ++ v) line rest.0, omega (arith, one, two, steps, rest.1))
 
 abbrev text_by : ℕ → List ℕ → ℕ → List ℕ
 text_by opening lines total = (begun_line opening ++ lines) ++ total_line (opening + total)

@@ -71,20 +71,6 @@ begins old events from to w = record {
   written = subst (λ (t : Bytes). Wrote 1 from to t) (sym (append-nil (begun_text old))) w;
 }
 
--- its text stands
-stands : (old state : State) (events : List Event) (from to : SinkState) (i : ℕ) (rest : List Event)
-    → (d : Done old events from i state rest to)
-    → ReplayStands old events (1 + length d.done) (replay_text old d.answers)
-stands old state events from to i rest d = record {
-  done = d.done;
-  rest = rest;
-  split = d.split;
-  count = refl;
-  answers = d.answers;
-  run = d.run;
-  prints = refl;
-}
-
 text_longer : (old : State) (i : ℕ) (answers : List Answered) (a : Answered) → i ≡ 1 + length answers
     → replay_text old answers ++ answer_text i a.answer a.state ≡ replay_text old (answers ++ a ∷ [])
 text_longer old i answers a e =
@@ -120,13 +106,12 @@ goes_on old state new events from to to2 i e rest u d (inl a) =
     let one : Answered = record { answer = a.answer; state = new } in
     let more = longer old state new events from to i e rest (Wrote 1 to to2) d a in
     let answered = length-append d.answers (one ∷ []) in
-    let as_many = d.as_many in
     record {
       done = more.done;
       split = more.split;
       answers = more.answers;
       run = more.run;
-      as_many = omega (arith, as_many, answered, more.count);
+      as_many = omega (arith, d.as_many, answered, more.count);
       last = sym (last_state-push old d.answers one);
       number = omega (arith, d.number, answered);
       written = subst (λ (n : ℕ). Wrote n from to2 (replay_text old more.answers)) more.count
@@ -135,52 +120,57 @@ goes_on old state new events from to to2 i e rest u d (inl a) =
           (answer_text i a.answer new) d.written a.written));
     }
 
--- an answer was not written whole
-stops_unwritten : (old state new : State) (events : List Event) (from to to2 : SinkState)
-    (i : ℕ) (e : Event) (rest : List Event) →
-    Done old events from i state (e ∷ rest) to → Answers state new i e (WrotePart 0 to to2 [])
-    → BreaksOff (ReplayStands old events) from to2
-stops_unwritten old state new events from to to2 i e rest d a = record {
-  puts = 1 + length d.done;
-  whole = replay_text old d.answers;
-  last = answer_text i a.answer new;
-  stood = inr (stands old state events from to i (e ∷ rest) d);
-  begun = longer old state new events from to i e rest (WrotePart 0 to to2 []) d a;
-  written = failed_after (1 + length d.done) from to to2 (replay_text old d.answers)
-      (answer_text i a.answer new) d.written a.written;
-}
-
--- memory ran out before one
-stops_short : (old state : State) (events : List Event) (from to : SinkState) (i : ℕ) (e : Event) (rest : List Event)
-    → Done old events from i state (e ∷ rest) to
-    → StopsShort (1 + length events) (ReplayStands old events) from to
-stops_short old state events from to i e rest d =
-    let all = ap length d.split in
-    let parts = length-append d.done (e ∷ rest) in
-    record {
-      puts = 1 + length d.done;
-      text = replay_text old d.answers;
-      few = omega (arith, all, parts);
-      stood = stands old state events from to i (e ∷ rest) d;
-      written = d.written;
-    }
-
 -- where memory ran out nothing was put
 unput : (old new : State) (i : ℕ) (e : Event) (from to : SinkState) → StepWrites old new i e from to (Err stop.NoMemory)
     → to ≡ from
 unput old new i e from to (inl a) = a.written
 unput old new i e from to (inr none) = none.0
 
-pub stops : (s : Stop) (old state new : State) (events : List Event) (from to to2 : SinkState)
-    (i : ℕ) (e : Event) (rest : List Event) →
-    Done old events from i state (e ∷ rest) to → StepWrites state new i e to to2 (Err s)
-    → ReplayEnds old new events from to2 (Err s)
-stops stop.NotWritten old state new events from to to2 i e rest d (inl a) =
-    stops_unwritten old state new events from to to2 i e rest d a
-stops stop.NotWritten old state new events from to to2 i e rest d (inr none) = absurd (cc none.1)
-stops stop.NoMemory old state new events from to to2 i e rest d a =
-    inr (subst (λ (x : SinkState). StopsShort (1 + length events) (ReplayStands old events) from x)
-    (sym (unput state new i e to to2 a)) (stops_short old state events from to i e rest d))
+-- a step that stopped the replay
+module _ (old state : State) (events : List Event) (from to : SinkState) (i : ℕ) (e : Event) (rest : List Event)
+    (d : Done old events from i state (e ∷ rest) to) where
+  -- what was done before stands
+  stands : ReplayStands old events (1 + length d.done) (replay_text old d.answers)
+  stands = record {
+    done = d.done;
+    rest = e ∷ rest;
+    split = d.split;
+    count = refl;
+    answers = d.answers;
+    run = d.run;
+    prints = refl;
+  }
+
+  -- an answer was not written whole
+  stops_unwritten : (new : State) (to2 : SinkState) → Answers state new i e (WrotePart 0 to to2 [])
+      → BreaksOff (ReplayStands old events) from to2
+  stops_unwritten new to2 a = record {
+    puts = 1 + length d.done;
+    whole = replay_text old d.answers;
+    last = answer_text i a.answer new;
+    stood = inr stands;
+    begun = longer old state new events from to i e rest (WrotePart 0 to to2 []) d a;
+    written = failed_after (1 + length d.done) from to to2 (replay_text old d.answers)
+        (answer_text i a.answer new) d.written a.written;
+  }
+
+  -- memory ran out before one
+  stops_short : StopsShort (1 + length events) (ReplayStands old events) from to
+  stops_short = record {
+    puts = 1 + length d.done;
+    text = replay_text old d.answers;
+    few = omega (arith, ap length d.split, length-append d.done (e ∷ rest));
+    stood = stands;
+    written = d.written;
+  }
+
+  pub stops : (s : Stop) (new : State) (to2 : SinkState) → StepWrites state new i e to to2 (Err s)
+      → ReplayEnds old new events from to2 (Err s)
+  stops stop.NotWritten new to2 (inl a) = stops_unwritten new to2 a
+  stops stop.NotWritten new to2 (inr none) = absurd (cc none.1)
+  stops stop.NoMemory new to2 a =
+      inr (subst (λ (x : SinkState). StopsShort (1 + length events) (ReplayStands old events) from x)
+      (sym (unput state new i e to to2 a)) stops_short)
 
 -- the opening plan was not written
 pub stops_at_once : (s : Stop) (old new : State) (events : List Event) (from to : SinkState)

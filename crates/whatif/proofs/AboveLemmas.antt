@@ -1,7 +1,8 @@
 -- The first count above a limit, by its place.
-use Rattle.std.proofs.Common.{◌≡◌, ℕ, ◌+◌, Bool, true, false, cond, List, [], ◌∷◌, Option, Some, refl, ap, ◌∙◌}
-use Rattle.std.specs.Prelude.{nat_lt, position, option_map, if◌then◌else◌}
+use Rattle.std.proofs.Common.{◌≡◌, ℕ, ◌+◌, inl, inr, List, [], ◌∷◌, Option, refl, ap, ◌∙◌}
+use Rattle.std.specs.Prelude.{nat_lt, position, option_map}
 use Rattle.std.specs.List.{position_from}
+use Rattle.std.proofs.lemmas.Bool.{cases_Bool}
 use Rattle.std.proofs.lemmas.Iterator.Adapters.{position_from-zero}
 use Rattle.arrivals.specs.declared.passed_list.PassedCount.{PassedCount}
 use Rattle.whatif.specs.Outcomes.{first_above}
@@ -10,15 +11,10 @@ module _ (k : ℕ) where
   from_place : (i : ℕ) (ps : List PassedCount)
       → option_map (λ j. j + 1) (position_from (λ (p : PassedCount). nat_lt k p.count) i ps) ≡ first_above k (i + 1) ps
   from_place i [] = refl
-  from_place i (p ∷ ps) = go (nat_lt k p.count) (from_place (i + 1) ps)
-    where
-      go : (b : Bool) → option_map (λ j. j + 1) (position_from (λ (q : PassedCount). nat_lt k q.count)
-          (i + 1) ps) ≡ first_above k (i + 1 + 1) ps →
-          option_map (λ j. j + 1) (cond b (Some i)
-          (position_from (λ (q : PassedCount). nat_lt k q.count) (i + 1) ps)) ≡ (if b then Some (i + 1)
-          else first_above k (i + 1 + 1) ps)
-      go true ih = refl
-      go false ih = ih
+  from_place i (p ∷ ps) = elim (cases_Bool (nat_lt k p.count)) [
+    | inl above ↦ rw above refl
+    | inr below ↦ rw below (from_place (i + 1) ps)
+  ]
 
   pub above_place : (ps : List PassedCount) (at : Option ℕ) → at ≡ position (λ (p : PassedCount). nat_lt k p.count) ps
       → option_map (λ j. j + 1) at ≡ first_above k 1 ps

@@ -1,6 +1,5 @@
 -- The least objective of a situation, from that of its problem.
-use Rattle.std.proofs.Common.{ℕ, Some, sym, subst, ◌∙◌}
-use Rattle.landing_rules.specs.declared.objective.Objective.{Objective}
+use Rattle.std.proofs.Common.{ℕ, Some, ◌∙◌}
 use Rattle.landing_rules.specs.Flights.{Situation}
 use Rattle.landing_rules.specs.Problem.{Problem, IsProblemOf, joined}
 use Rattle.landing_rules.specs.Sound.{IsSound}
@@ -12,9 +11,7 @@ use Rattle.whatif.specs.Outcomes.{HasLeast}
 
 pub plannable : (s : Situation) (p : Problem) → IsProblemOf s p → IsWithinShift s.aerodrome.objective s.aerodrome.k
     → IsPlannable p
-plannable s p is h =
-    subst (λ (k : ℕ). IsWithinShift p.objective k) (sym is.k)
-    (subst (λ (o : Objective). IsWithinShift o s.aerodrome.k) (sym is.objective) h)
+plannable s p is h = rw (is.k, is.objective) h
 
 module _ (s : Situation) (p : Problem) (sound : IsSound s) (is : IsProblemOf s p) where
   pub least_some : BestListLaw → SameObjectiveLaw → (v : ℕ) → IsLeastValue p (Some v) → HasLeast s (Value v)

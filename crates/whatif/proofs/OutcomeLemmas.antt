@@ -1,6 +1,6 @@
 -- The outcomes of trials, from those at each place; closures as events; and when an outcome is no worse.
-use Rattle.std.proofs.Common.{◌≡◌, ℕ, suc, ◌+◌, ◌<◌, ◌≤◌, List, [], ◌∷◌, length, get_or, Option, Some, None, Bool}
-use Rattle.std.proofs.Common.{true, false, refl, ap, ◌∙◌, arith}
+use Rattle.std.proofs.Common.{◌≡◌, ℕ, suc, ◌+◌, ◌<◌, ◌≤◌, List, [], ◌∷◌, length, get_or, Option, Some, None, Bool, true}
+use Rattle.std.proofs.Common.{false, refl, ap, ◌∙◌, arith}
 use Rattle.std.specs.Prelude.{MatchOption, is_some, option_map, nat_le, find, if◌then◌else◌}
 use Rattle.std.specs.List.{AllZip}
 use Rattle.cps_base.specs.Limits.{most_closures}
@@ -73,8 +73,7 @@ answered (Some r) (Some q) refused e is =
 pub no_worse_by : (s t : Situation) → ((a b : Schedule) → IsBest s a → IsBest t b → objective t b ≤ objective s a)
     → (((u : Schedule) → IsFeasible t u → ⊥) → (a : Schedule) → IsFeasible s a → ⊥) → (x y : Outcome)
     → HasLeast s x → HasLeast t y → IsNoWorse x y
-no_worse_by s t le none (Value v) (Value u) (a, best, e) (b, other, f) = let h =
-    le a b best other in omega (arith, h, e, f)
+no_worse_by s t le none (Value v) (Value u) (a, best, e) (b, other, f) = omega (arith, le a b best other, e, f)
 no_worse_by s t le none (Value v) Infeasible (a, best, e) rest = absurd (none rest a best.feasible)
 no_worse_by s t le none (Value v) (Refused r) x y = absurd y
 no_worse_by s t le none Infeasible y hx hy = tt

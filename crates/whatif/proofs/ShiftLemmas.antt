@@ -9,7 +9,7 @@ use Rattle.arrivals.specs.declared.passed_list.PassedCount.{PassedCount}
 use Rattle.arrivals.specs.Aerodromes.{IsInRange, is_delay, is_beyond, most_shift}
 use Rattle.arrivals.specs.declared.flight.Flight as files
 use Rattle.landing_joint.specs.Shift.{with_shift}
-use Rattle.situations.specs.Opened.{CanOpen, opened}
+use Rattle.situations.specs.Opened.{opened}
 use Rattle.situations.specs.Refused.{IsOpenable}
 use Rattle.trial_file.specs.declared.trial.Trial.TheVariants.{Shift}
 use Rattle.whatif.specs.declared.outcome.Outcome.{Outcome}
@@ -67,15 +67,15 @@ module _ (a : aerodromes.Aerodrome) (fs : List files.Flight) (k : ℕ) (few : k 
   pub shifted_opens : (other : aerodromes.Aerodrome) → other ≡ a → IsOpenable a fs
       → IsOpenable (record other { k = k }) fs
   shifted_opens other e opens =
-      let may : CanOpen (record a { k = k }) fs =
-      record {
-        aerodrome = in_range opens.0.aerodrome;
-        few = opens.0.few;
-        flights = opens.0.flights;
-        callsigns =
-            opens.0.callsigns;
-      } in
-      subst (λ (z : aerodromes.Aerodrome). IsOpenable (record z { k = k }) fs) (sym e) (may, opens.1)
+      subst (λ (z : aerodromes.Aerodrome). IsOpenable (record z { k = k }) fs) (sym e) (
+        record {
+          aerodrome = in_range opens.0.aerodrome;
+          few = opens.0.few;
+          flights = opens.0.flights;
+          callsigns = opens.0.callsigns;
+        },
+        opens.1,
+      )
 
   -- what comes of it is the outcome of the trial
   pub shifted_outcome : {E : Type 0} (other : aerodromes.Aerodrome) → other ≡ a → (r : Result Outcome E)

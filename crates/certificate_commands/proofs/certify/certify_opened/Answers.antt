@@ -1,7 +1,6 @@
 use Rattle.std.proofs.Common.{Option, subst, sym}
 use Rattle.landing_rules.specs.Flights.{Schedule}
 use Rattle.cert_writer.specs.Answer.{ShowsAnswer}
-use Rattle.sequencer.specs.Opened.{opened}
 use Rattle.endings.specs.shared.Refusing.{opened_taken, stops_opened}
 use Rattle.certificate_commands.proofs.TrueVerdicts.{claim_true}
 use Rattle.std.proofs.lemmas.Result.{err_from_is_err_and}
@@ -14,11 +13,10 @@ returns g c = record {
     problem = c.in_ok-problem.problem;
     problem_of = c.in_ok-problem.ensures.problem;
     verdict_is = sym c.in_ok-certificate.ensures.accepted;
-    true_of = claim_true (opened c.args.aerodrome.now c.args.flights.now) c.in_ok-problem.problem
-        c.in_ok-certificate.certificate.landings c.in_ok-certificate.certificate.claim
-        c.problem_stands_for_situation.ensures.best c.problem_stands_for_situation.ensures.objectives
-        c.problem_stands_for_situation.ensures.none
-        c.in_ok-problem.ensures.sound c.in_ok-problem.ensures.problem c.in_ok-certificate.ensures.whole.answer;
+    true_of = claim_true _ _ _ c.problem_stands_for_situation.ensures.best
+        c.problem_stands_for_situation.ensures.objectives c.problem_stands_for_situation.ensures.none
+        c.in_ok-problem.ensures.sound c.in_ok-problem.ensures.problem
+        c.in_ok-certificate.certificate.claim c.in_ok-certificate.ensures.whole.answer;
     sound = c.in_ok-problem.ensures.sound;
     well_formed = c.head-well_formed.ensures.well_formed;
     in_form = c.claim-in_form.ensures.certificate;

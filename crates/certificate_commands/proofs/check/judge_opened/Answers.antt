@@ -1,4 +1,3 @@
-use Rattle.sequencer.specs.Opened.{opened}
 use Rattle.endings.specs.shared.Refusing.{opened_taken, stops_opened}
 use Rattle.certificate_commands.proofs.TrueVerdicts.{true_of}
 use Rattle.std.proofs.lemmas.Result.{err_from_is_err_and}
@@ -10,11 +9,10 @@ returns c = record {
   problem = c.in_ok-problem.problem;
   problem_of = c.in_ok-problem.ensures.problem;
   verdict_is = c.judge.ensures.exact;
-  true_of = true_of (opened c.args.aerodrome.now c.args.flights.now) c.in_ok-problem.problem
-      c.args.certificate.now.landings c.judge.result
-      c.problem_stands_for_situation.ensures.best c.problem_stands_for_situation.ensures.objectives
-      c.problem_stands_for_situation.ensures.none
-      c.in_ok-problem.ensures.sound c.in_ok-problem.ensures.problem c.judge.ensures.optimal c.judge.ensures.infeasible;
+  true_of = true_of _ _ _ c.problem_stands_for_situation.ensures.best
+      c.problem_stands_for_situation.ensures.objectives c.problem_stands_for_situation.ensures.none
+      c.in_ok-problem.ensures.sound c.in_ok-problem.ensures.problem c.judge.result c.judge.ensures.optimal
+      c.judge.ensures.infeasible;
   sound = c.in_ok-problem.ensures.sound;
   well_formed = c.head-well_formed.ensures.well_formed;
   in_form = c.claim-in_form.ensures.certificate;

@@ -1,7 +1,3 @@
-use Rattle.std.proofs.Common.{ℕ, sym, subst}
-use Rattle.landing_rules.specs.FirstBest.{IsFirstBestList}
-use Rattle.landing_rules.specs.Problem.{Problem}
-use Rattle.landing_joint.specs.CompletingPairs.{IsLeastObjective}
 use Rattle.inquiry_commands.proofs.FirstPlans.{first_shown, first_value, shown_least}
 use Rattle.inquiry_commands.proofs.first_plans.first_plan.Goals as goal
 
@@ -9,30 +5,26 @@ pub first_schedule-requires-clause-value : goal.first_schedule-requires-clause-v
 first_schedule-requires-clause-value c =
     let s = c.args.sequencer.now in
     let laws = c.problem_stands_for_situation.ensures in
-    let least = shown_least laws.feasible laws.every laws.objectives s.state s.problem
+    rw (c.value-value.ensures, c.problem-problem.ensures.value)
+    (shown_least laws.feasible laws.every laws.objectives s.state s.problem
     c.problem-problem.ensures.sound.situation c.problem-problem.ensures.problem c.plan.ensures.shown
-    c.in-Some.shown.now c.in-Some.ensures.plan in
-    subst (λ (v : ℕ). IsLeastObjective c.problem-problem.result.now v) (sym c.value-value.ensures)
-    (subst (λ (p : Problem). IsLeastObjective p c.in-Some.shown.now.value)
-    (sym c.problem-problem.ensures.value) least)
+    c.in-Some.shown.now c.in-Some.ensures.plan)
 
 pub returns-in_ok-plan-in-Some-clause-first : goal.returns-in_ok-plan-in-Some-clause-first
 returns-in_ok-plan-in-Some-clause-first c =
     let s = c.args.sequencer.now in
     let laws = c.problem_stands_for_situation.ensures in
-    let first = subst (λ (p : Problem). IsFirstBestList p c.in_ok-schedule-in-Some.schedule)
-    c.problem-problem.ensures.value c.in_ok-schedule-in-Some.ensures in
     first_shown laws.feasible laws.every laws.objectives s.state s.problem c.problem-problem.ensures.sound.situation
     c.problem-problem.ensures.problem c.first_best_schedule_is_one.ensures.list c.in_ok-schedule-in-Some.schedule
-    first c.in_ok-plan-in-Some.plan c.in_ok-plan-in-Some.ensures
+    (rw c.problem-problem.ensures.value at c.in_ok-schedule-in-Some.ensures) c.in_ok-plan-in-Some.plan
+    c.in_ok-plan-in-Some.ensures
 
 pub returns-in_ok-plan-in-Some-clause-value : goal.returns-in_ok-plan-in-Some-clause-value
 returns-in_ok-plan-in-Some-clause-value c =
     let s = c.args.sequencer.now in
     let laws = c.problem_stands_for_situation.ensures in
     let one = c.first_best_schedule_is_one.ensures in
-    let first = subst (λ (p : Problem). IsFirstBestList p c.in_ok-schedule-in-Some.schedule)
-    c.problem-problem.ensures.value c.in_ok-schedule-in-Some.ensures in
     first_value laws.feasible laws.every laws.objectives s.state s.problem c.problem-problem.ensures.sound.situation
     c.problem-problem.ensures.problem one.list one.objective c.plan.ensures.shown c.in_ok-schedule-in-Some.schedule
-    first c.in_ok-plan-in-Some.plan c.in-Some.shown.now c.in_ok-plan-in-Some.ensures c.in-Some.ensures.plan
+    (rw c.problem-problem.ensures.value at c.in_ok-schedule-in-Some.ensures) c.in_ok-plan-in-Some.plan
+    c.in-Some.shown.now c.in_ok-plan-in-Some.ensures c.in-Some.ensures.plan

@@ -1,7 +1,5 @@
-use Rattle.std.proofs.Common.{subst, ◌∙◌, ap}
 use Rattle.std.proofs.lemmas.Result.{err_from_is_err_and}
-use Rattle.landing_rules.specs.Sound.{IsSound}
-use Rattle.endings.specs.shared.Refusing.{opened_taken, stops_opened}
+use Rattle.endings.specs.shared.Refusing.{stops_opened}
 use Rattle.inquiry_commands.proofs.what_ifs.try_opened.Goals as goal
 
 pub returns-in_err-_opened : goal.returns-in_err-_opened

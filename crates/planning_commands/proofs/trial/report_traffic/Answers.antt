@@ -1,11 +1,9 @@
 use Rattle.cps_base.specs.Limits.{most_waiting}
-use Rattle.planning_commands.proofs.Summed.{sums}
-use Rattle.std.proofs.Common.{◌≤◌, length, ap, sym, subst, ◌∙◌}
+use Rattle.std.proofs.Common.{◌≤◌, List, length, ap, sym, subst, ◌∙◌}
 use Rattle.arrivals.specs.declared.flight.Flight.{Flight}
-use Rattle.std.proofs.Common.{List}
 use Rattle.std.proofs.lemmas.Result.{err_from_is_err_and}
 use Rattle.arrivals.specs.declared.aerodrome.Aerodrome.{Aerodrome}
-use Rattle.planning_commands.proofs.Summed.{stops_short}
+use Rattle.planning_commands.proofs.Summed.{stops_short, sums}
 use Rattle.planning_commands.proofs.trial.report_traffic.Goals as goal
 
 pub returns : goal.returns

@@ -1,4 +1,4 @@
-use Rattle.std.proofs.Common.{◌≡◌, ℕ, ◌≤◌, subst, sym, map, length, arith}
+use Rattle.std.proofs.Common.{◌≡◌, ℕ, ◌≤◌, subst, sym, arith}
 use Rattle.std.specs.Prelude.{None}
 use Rattle.std.proofs.lemmas.List.{length-map}
 use Rattle.std.proofs.lemmas.Result.{err_from_is_err_and}
@@ -30,11 +30,8 @@ returns-in_err-steps g c =
 pub overflow_add-opening : goal.overflow_add-opening
 overflow_add-opening g c =
     let opening = opening_few c.args.opening c.problem.ensures.value c.requires.opened c.due_is_small.ensures in
-    let all = c.in_ok-steps.ensures.few in
-    let many : length (map event_of c.args.events.now) ≡ length c.args.events.now =
-    length-map c.args.events.now event_of in
-    let few = c.requires.few in
-    omega (arith, opening, all, many, few)
+    let many = length-map c.args.events.now event_of in
+    omega (arith, opening, c.in_ok-steps.ensures.few, many, c.requires.few)
 
 pub returns-in_err-close : goal.returns-in_err-close
 returns-in_err-close g c =

@@ -13,7 +13,7 @@ returns-in_err-steps g c =
     let here = rw (event_at event_of c.args.events.now c.loop-i.i c.index-events-i.result c.loop-i-test.true
     c.index-events-i.is) at c.loop-i.invariant in
     let p = err_from_is_err_and c.from_residual.result c.from_residual.ensures.1 in
-    rw (p.1, p.2) (stops c.in_err-steps.field-0.0 _ _ _ _ _ _ _ _ _ _ _ here c.in_err-steps.ensures)
+    rw (p.1, p.2) (stops _ _ _ _ _ _ _ _ _ here c.in_err-steps.field-0.0 _ _ c.in_err-steps.ensures)
 
 pub loop-i-preserved : goal.loop-i-preserved
 loop-i-preserved g c =

@@ -25,7 +25,7 @@ returns-in_err-put_answer g c =
     let p = err_from_is_err_and c.from_residual-in_err-put_answer.result
     c.from_residual-in_err-put_answer.ensures.1 in
     record {
-      outcome = rw (p.1, p.2) (stops c.in_err-put_answer.field-0.0 _ _ _ _ _ _ _ _ _ _ here
+      outcome = rw (p.1, p.2) (stops _ _ _ _ _ _ _ _ here c.in_err-put_answer.field-0.0 _ _
           (tried _ _ _ _ _ _ _ c.apply-outcome.result c.apply-outcome.ensures.accepted c.apply-outcome.ensures.refused
           c.in_err-put_answer.ensures));
     }

@@ -1,5 +1,3 @@
-use Rattle.std.proofs.Common.{subst}
-use Rattle.replan.specs.LeastValue.{IsLeastValue}
 use Rattle.whatif.proofs.LeastLemmas.{plannable, least_some}
 use Rattle.whatif.proofs.running.least_of.Goals as goal
 
@@ -11,4 +9,4 @@ pub returns : goal.returns
 returns c =
     least_some c.args.situation.now c.in_ok-problem.problem c.requires.sound c.in_ok-problem.ensures
     c.problem_stands_for_situation.ensures.best c.problem_stands_for_situation.ensures.objectives c.in-Some.value
-    (subst (IsLeastValue c.in_ok-problem.problem) c.in-Some.is c.in_ok-least_value.ensures)
+    (rw c.in-Some.is at c.in_ok-least_value.ensures)
