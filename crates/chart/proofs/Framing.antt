@@ -10,34 +10,23 @@ use Rattle.chart.specs.Frames.{empty, frame_of, widened, with_active, with_horiz
 use Rattle.chart.specs.Frames.{with_windows}
 use Rattle.chart.specs.Laws.{FrameLaw, Holds, HoldsFlight, HoldsLanding, HoldsRow, HoldsWindow}
 
--- the seconds from the first to the last
-abbrev Within : Frame → ℕ → Type 0
-Within f t = (f.first ≤ t) × (t ≤ f.last)
-
-abbrev Wider : Frame → Frame → Type 0
-Wider f g = (g.first ≤ f.first) × (f.last ≤ g.last)
-
-still : (f g : Frame) (t : ℕ) → Wider f g → Within f t → Within g t
-still f g t w h = (let a = w.0 in let b = h.0 in omega (arith, a, b), let a = w.1 in let b = h.1 in omega (arith, a, b))
+record Wider (f g : Frame) : Type 0 where
+  first : g.first ≤ f.first
+  last : f.last ≤ g.last
 
 itself : (f : Frame) → Wider f f
-itself f = (omega arith, omega arith)
+itself f = record { first = omega arith; last = omega arith }
 
-chain : (f g h : Frame) → Wider f g → Wider g h → Wider f h
-chain f g h a b = (let x = a.0 in let y = b.0 in omega (arith, x, y), let x = a.1 in let y = b.1 in omega (arith, x, y))
+chain : {f g h : Frame} → Wider f g → Wider g h → Wider f h
+chain a b = record { first = omega arith; last = omega arith }
 
 one_wider : (f : Frame) (t : ℕ) → Wider f (widened f t)
-one_wider f t = (omega arith, omega arith)
-
-one_held : (f : Frame) (t : ℕ) → Within (widened f t) t
-one_held f t = (omega arith, omega arith)
+one_wider f t = record { first = omega arith; last = omega arith }
 
 windows_wider : (f : Frame) (ws : List Span) → Wider f (with_windows f ws)
 windows_wider f [] = itself f
-windows_wider f (w ∷ rest) =
-    let g = widened f w.0 in
-    let h = widened g w.1 in
-    chain f h (with_windows h rest) (chain f g h (one_wider f w.0) (one_wider g w.1)) (windows_wider h rest)
+windows_wider f (w ∷ rest) = chain (chain (one_wider f w.0) (one_wider _ w.1)) (windows_wider (widened
+    (widened f w.0) w.1) rest)
 
 landing_wider : (f : Frame) (l : Option ShownLanding) → Wider f (with_landing f l)
 landing_wider f None = itself f
@@ -45,17 +34,12 @@ landing_wider f (Some l) = one_wider f l.second
 
 active_wider : (f : Frame) (a : Option Active) → Wider f (with_active f a)
 active_wider f None = itself f
-active_wider f (Some a) = chain f (widened f a.flight.eta) (with_windows (widened f a.flight.eta) a.flight.windows)
-    (one_wider f a.flight.eta) (windows_wider (widened f a.flight.eta) a.flight.windows)
-
-row_wider : (f : Frame) (r : Row) → Wider f (with_row f r)
-row_wider f r = chain f (with_landing f r.landing) (with_row f r) (landing_wider f r.landing)
-    (active_wider (with_landing f r.landing) r.active)
+active_wider f (Some a) = chain (one_wider f a.flight.eta) (windows_wider _ a.flight.windows)
 
 rows_wider : (f : Frame) (rows : List Row) → Wider f (with_rows f rows)
 rows_wider f [] = itself f
 rows_wider f (r ∷ rest) =
-    chain f (with_row f r) (with_rows (with_row f r) rest) (row_wider f r) (rows_wider (with_row f r) rest)
+    chain (chain (landing_wider f r.landing) (active_wider _ r.active)) (rows_wider (with_row f r) rest)
 
 horizon_wider : (f : Frame) (h : ℕ) → Wider f (with_horizon f h)
 horizon_wider f h = one (h == 0)
@@ -66,45 +50,33 @@ horizon_wider f h = one (h == 0)
 
 -- ---- what a frame that is wider still holds
 
-inside : (f : Frame) (t : ℕ) → Within f t → Holds f t
-inside f t h = (let a = h.0 in omega (arith, a), h.1)
+held : (f : Frame) (t : ℕ) {g : Frame} → Wider (widened f t) g → Holds g t
+held f t w = (omega arith, omega arith)
 
 landing_held : (f g : Frame) (l : Option ShownLanding) → Wider (with_landing f l) g → HoldsLanding g l
 landing_held f g None w = tt
-landing_held f g (Some l) w = inside g l.second (still (widened f l.second) g l.second w (one_held f l.second))
+landing_held f g (Some l) w = held f l.second w
 
 windows_held : (f g : Frame) (ws : List Span) → Wider (with_windows f ws) g → AllByRecursion (HoldsWindow g) ws
 windows_held f g [] w = tt
 windows_held f g (v ∷ rest) w =
     let a = widened f v.0 in
-    let b = widened a v.1 in
-    let far = chain b (with_windows b rest) g (windows_wider b rest) w in (
-      (
-        inside g v.0 (still a g v.0 (chain a b g (one_wider a v.1) far) (one_held f v.0)),
-        inside g v.1
-            (still b g v.1 far (one_held a v.1)),
-      ),
-      windows_held b g rest w,
-    )
+    let far = chain (windows_wider (widened a v.1) rest) w in
+    ((held f v.0 (chain (one_wider a v.1) far), held a v.1 far), windows_held (widened a v.1) g rest w)
 
 flight_held : (f g : Frame) (a : Option Active) → Wider (with_active f a) g → HoldsFlight g a
 flight_held f g None w = tt
-flight_held f g (Some a) w =
-    let e = widened f a.flight.eta in (
-      inside g a.flight.eta (still e g a.flight.eta
-          (chain e (with_windows e a.flight.windows) g (windows_wider e a.flight.windows) w) (one_held f a.flight.eta)),
-      windows_held e g a.flight.windows w,
-    )
+flight_held f g (Some a) w = (
+  held f a.flight.eta (chain (windows_wider _ a.flight.windows) w),
+  windows_held (widened f a.flight.eta) g a.flight.windows w,
+)
 
 rows_held : (f g : Frame) (rows : List Row) → Wider (with_rows f rows) g → AllByRecursion (HoldsRow g) rows
 rows_held f g [] w = tt
 rows_held f g (r ∷ rest) w =
     let l = with_landing f r.landing in
-    let far = chain (with_row f r) (with_rows (with_row f r) rest) g (rows_wider (with_row f r) rest) w in (
-      (
-        landing_held f g r.landing (chain l (with_row f r) g (active_wider l r.active) far),
-        flight_held l g r.active far,
-      ),
+    let far = chain (rows_wider (with_row f r) rest) w in (
+      (landing_held f g r.landing (chain (active_wider l r.active) far), flight_held l g r.active far),
       rows_held (with_row f r) g rest w,
     )
 

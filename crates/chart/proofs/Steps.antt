@@ -12,5 +12,5 @@ tail_read (y ∷ ys) x some at =
 
 -- ---- one behind another
 
-pub then : {X : Type 0} (o a rest : List X) → {v w : List X} → v ≡ o ++ a → w ≡ v ++ rest → w ≡ o ++ (a ++ rest)
+pub then : {X : Type 0} (o a rest : List X) {v w : List X} → v ≡ o ++ a → w ≡ v ++ rest → w ≡ o ++ (a ++ rest)
 then o a rest e h = h ∙ ap (λ x. x ++ rest) e ∙ append_assoc o a rest

@@ -1,4 +1,4 @@
-use Rattle.std.proofs.Common.{[], ◌∷◌, ◌+◌, ◌-◌, Bool, length, map, take, drop, sym, ap, ◌∙◌, arith}
+use Rattle.std.proofs.Common.{◌∷◌, ◌+◌, ◌-◌, Bool, length, map, take, drop, sym, ap, ◌∙◌, arith}
 use Rattle.audit.specs.Findings.{finding_of}
 use Rattle.chart.specs.declared.element.Element.TheVariants as element
 use Rattle.chart.specs.declared.element.Label.{Label}
@@ -22,9 +22,8 @@ loop-rest-preserved c =
     let long = ap length here in
     let few = c.loop-rest.invariant.1 in (
       loop_step (labels_drawn active rows c.args.lines.now found n)
-          (labels_drawn active rows c.args.lines.now found (n + 1)) rest tail row
-          c.loop-rest.all.items (element.Label n c.label_of.result ∷ []) c.push.new.self.items _
-          here c.in_ok-push.ensures.items (ap (λ (l : Label). element.Label n l ∷ behind) (sym label))
+          (labels_drawn active rows c.args.lines.now found (n + 1)) _ _ _ _ _ _ _ here c.in_ok-push.ensures.items (ap
+          (λ (l : Label). element.Label n l ∷ behind) (sym label))
           c.loop-rest.invariant.0,
       omega (arith, long, few),
     )

@@ -9,7 +9,6 @@ pub returns : goal.returns
 returns c =
     IfOk-weaker c.add_rows.result _ _ (λ _ h.
     field_laid c.args.situation.now c.args.lines.now (map finding_of c.args.found.now) c.args.rows.now c.args.frame
-    c.span_of-span.result c.first_of.result c.horizon.result c.closures.result.now c.fixed.result.now.table
     c.args.all.now.items
     c.span_of-span.ensures.value c.closures.ensures c.first_of.ensures c.horizon.ensures.value
     (ap (λ (a : Aerodrome). a.table) c.fixed.ensures.value)

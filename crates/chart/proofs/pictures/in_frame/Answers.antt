@@ -6,8 +6,7 @@ use Rattle.chart.proofs.pictures.in_frame.Goals as goal
 pub returns : goal.returns
 returns c =
     laid_out c.args.situation.now c.args.title c.args.lines.now
-    (map finding_of c.args.found.now) c.args.rows.now c.flights.result.now
-    c.lines_below.result c.horizon.result c.horizon-2.result c.left_of.result c.frame_of-frame.result
+    (map finding_of c.args.found.now) c.args.rows.now
     c.new-all.ensures.items c.lines_below.ensures.value c.horizon.ensures.value c.horizon-2.ensures.value
     c.flights.ensures c.frame_of-frame.ensures c.left_of.ensures
     c.in_ok-push.ensures.items c.in_ok-push-2.ensures.items c.in_ok-say_horizon.ensures c.in_ok-add_labels.ensures

@@ -1,4 +1,4 @@
-use Rattle.std.proofs.Common.{List, [], ◌∷◌, ◌-◌, length, map, take, drop, sym, ap}
+use Rattle.std.proofs.Common.{List, ◌∷◌, ◌-◌, length, map, take, drop, sym, ap}
 use Rattle.plan_file.specs.Shown.{shown_of}
 use Rattle.plan_file.specs.declared.landing.Landing.{Landing}
 use Rattle.chart.specs.Rows.{Row, landed_row}
@@ -12,7 +12,6 @@ loop-rest-preserved c =
     let tail = take (length rest - 1) (drop 1 rest) in
     let active = c.args.active.now in
     let each : List Landing → List Row = λ ls. map (landed_row active) (map shown_of ls) in
-    loop_step each each rest tail c.line-item.result c.loop-rest.all.items
-    (c.in_ok-row.row ∷ []) c.push.new.self.items _
-    (tail_read rest c.line-item.result c.in-len1-up.len_at_least c.line-item.is) c.in_ok-push.ensures.items
+    loop_step each each _ _ _ _ _ _ _ (tail_read rest c.line-item.result c.in-len1-up.len_at_least c.line-item.is)
+    c.in_ok-push.ensures.items
     (ap (λ (r : Row). r ∷ each tail) (sym c.in_ok-row.ensures)) c.loop-rest.invariant

@@ -1,4 +1,4 @@
-use Rattle.std.proofs.Common.{ℕ, List, ◌-◌, length, map, take, drop, refl}
+use Rattle.std.proofs.Common.{ℕ, List, map, refl}
 use Rattle.std.specs.Prelude.{flat_map}
 use Rattle.audit.specs.declared.finding.Finding.{Finding}
 use Rattle.audit.specs.Findings.{finding_of}
@@ -10,9 +10,7 @@ use Rattle.chart.proofs.text.append_each_listed.Goals as goal
 pub loop-rest-preserved : goal.loop-rest-preserved
 loop-rest-preserved c =
     let rest = c.loop-rest.rest.now in
-    let tail = take (length rest - 1) (drop 1 rest) in
     let each : List Finding → List ℕ = λ fs. flat_map listed_text (map finding_of fs) in
-    loop_step each each rest tail c.finding-item.result c.loop-rest.into.items
-    (listed_text (finding_of c.finding-item.result)) c.append_listed.new.into.items _
-    (tail_read rest c.finding-item.result c.in-len1-up.len_at_least c.finding-item.is) c.in_ok-append_listed.ensures
+    loop_step each each _ _ _ _ _ _ _ (tail_read rest c.finding-item.result c.in-len1-up.len_at_least
+    c.finding-item.is) c.in_ok-append_listed.ensures
     refl c.loop-rest.invariant
