@@ -1,5 +1,5 @@
 -- What an accepted certificate means.
-use Rattle.std.proofs.Common.{rules, ◌≡◌, ℕ, ◌≤◌, Bool, true, false, cond, List, [], ◌∷◌, length, Option, Some, None}
+use Rattle.std.proofs.Common.{rules, ◌≡◌, ℕ, ◌≤◌, Bool, true, false, cond, List, [], ◌∷◌, Option, Some, None}
 use Rattle.std.proofs.Common.{refl, subst}
 use Rattle.std.specs.Prelude.{◌==◌}
 use Rattle.std.specs.Option.{option_or}
@@ -34,10 +34,6 @@ unless_none : {A : Type 0} (b : Bool) (x : A) → cond b (Some x) None ≡ None 
 unless_none true x e = absurd (cc)
 unless_none false x e = refl
 
-when_none : {A : Type 0} (b : Bool) (x : A) → cond b None (Some x) ≡ None → b ≡ true
-when_none true x e = refl
-when_none false x e = absurd (cc)
-
 -- what the states leave
 record StatesHold (p : Problem) (c : Claim) (ss : List State) : Type 0 where
   from_start : first_missed p ss (start_node p) ((0, 0) ∷ []) ≡ None
@@ -60,13 +56,6 @@ record LandingsHold (p : Problem) (v : ℕ) (ls : Landings) : Type 0 where
 landings_hold : (p : Problem) (v : ℕ) (ls : Landings) → landing_reason p v ls ≡ None → LandingsHold p v ls
 unfolding landing_reason
 landings_hold p v ls e = search rules
-
--- with no flight there is one list
-only_list : (p : Problem) (u w : Schedule) → count p ≡ 0 → length u ≡ count p → length w ≡ count p
-    → list_objective p u ≡ list_objective p w
-only_list p [] [] none a b = refl
-only_list p [] (y ∷ w) none a b = cc
-only_list p (x ∷ u) w none a b = cc
 
 no_smaller : (p : Problem) (v : ℕ) (ls : Landings) (ss : List State) → IsWellFormed p
     → StatesHold p (claim.Optimal v) ss → list_objective p (seconds p ls) ≡ v → (u : Schedule)

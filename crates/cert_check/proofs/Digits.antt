@@ -1,5 +1,5 @@
 -- Digits as the bits of a number, one more at the front.
-use Rattle.std.proofs.Common.{rules, ◌≡◌, ℕ, zero, suc, ◌+◌, ◌*◌, ◌≤◌, ◌^◌, Bool, true, false, cond, ◌∷◌, arith}
+use Rattle.std.proofs.Common.{rules, ◌≡◌, ℕ, zero, suc, ◌+◌, ◌*◌, ◌≤◌, ◌^◌, Bool, true, false, cond, arith}
 use Rattle.std.proofs.lemmas.Grind.{common_steps}
 use Rattle.std.specs.Prelude.{◌/◌, ◌%◌, ◌==◌}
 use Rattle.certificate.specs.Patterns.{bits}
@@ -24,9 +24,6 @@ bit n false = search rules
 half : (n : ℕ) (b : Bool) → (2 * n + cond b 1 0) / 2 ≡ n
 half n true = omega arith
 half n false = omega arith
-
-more_bits : (i n : ℕ) (b : Bool) → bits (i + 1) (2 * n + cond b 1 0) ≡ b ∷ bits i n
-more_bits i n b = search rules
 
 -- one more digit before those from y on
 pub more_digits : (t : ℕ → Bool) (i y z n : ℕ) (b : Bool) → bits i n ≡ tests_from t z i → z ≡ suc y

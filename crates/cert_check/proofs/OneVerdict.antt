@@ -1,5 +1,5 @@
 -- The verdict on a certificate is one for a situation.
-use Rattle.std.proofs.Common.{rules, ◌≡◌, ℕ, List, [], ◌∷◌, length, Option, Some, None, Bool, not, ◌&&◌, ◌-◌, refl, ap}
+use Rattle.std.proofs.Common.{rules, ◌≡◌, ℕ, List, [], ◌∷◌, Option, Some, None, Bool, not, ◌&&◌, refl, ap}
 use Rattle.std.proofs.Common.{ap₂, ◌∙◌}
 use Rattle.std.specs.Prelude.{◌==◌, nat_lt, option_map, if◌then◌else◌}
 use Rattle.std.specs.Option.{option_or}
@@ -12,9 +12,8 @@ use Rattle.cps_theory.specs.FirstFound.{first_from, first_pair_from, with_number
 use Rattle.cps_theory.specs.Labels.{Pair}
 use Rattle.cps_theory.specs.LegalPrefix.{OrderRules}
 use Rattle.cps_theory.specs.Patterns.{pattern_node}
-use Rattle.cps_theory.specs.RankLists.{of_rank}
 use Rattle.cps_theory.specs.CertificateClosure as closure
-use Rattle.landing_joint.specs.RankedProblem.{no_waiting, first_at, cost_at, makespan_by, value_by}
+use Rattle.landing_joint.specs.RankedProblem.{first_at, cost_at, makespan_by, value_by}
 use Rattle.certificate.specs.declared.certificate.Claim.{Claim}
 use Rattle.certificate.specs.declared.certificate.Claim.TheVariants as claim
 use Rattle.certificate.specs.States.{State}
@@ -74,16 +73,6 @@ module _ (p : Problem) (xs : List ℕ) (same : must_precede xs ≡ must_precede 
   same_final : (c : Claim) (ss : List State) → final_failure q c ss ≡ final_failure p c ss
   same_final (claim.Optimal v) ss = search rules
   same_final claim.Infeasible ss = refl
-
-  -- the rules of an order, by that test
-  abbrev rules_by : (ℕ → ℕ → Bool) → OrderRules
-  rules_by before = record {
-    count = length p.flights;
-    most = p.k;
-    back =
-        λ r. p.k - (of_rank no_waiting p.flights r).passed;
-    before = before;
-  }
 
   -- which states fail first, by these rules
   abbrev state_by : List State → OrderRules → Option ℕ → Option Reason

@@ -33,10 +33,6 @@ and_yes : (a b : Bool) → a ≡ true → a && b ≡ b
 and_yes true b e = refl
 and_yes false b e = absurd cc
 
--- a cheaper one behind decides
-or_cheaper : (a b c : ℕ) → b < a → leb a c || leb b c ≡ leb b c
-or_cheaper a b c lt = search rules
-
 -- where all are later, none is no worse
 pub all_later : (ps : List Pair) (q : Pair) → ((k : ℕ) (d : Pair) → k < length ps → leb (get_or ps k d).0 q.0 ≡ false)
     → list_any (λ o. no_worse o q) ps ≡ false

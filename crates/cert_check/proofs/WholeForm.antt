@@ -1,13 +1,12 @@
 -- States that leave nothing out keep the form of a certificate's, and are few.
-use Rattle.std.proofs.Common.{rules, ◌≡◌, ℕ, suc, ◌+◌, ◌*◌, ◌<◌, ◌≤◌, ◌⊎◌, inl, inr, Bool, true, false, List, [], ◌∷◌}
+use Rattle.std.proofs.Common.{rules, ◌≡◌, ℕ, suc, ◌+◌, ◌*◌, ◌<◌, ◌≤◌, inl, inr, Bool, true, false, List, [], ◌∷◌}
 use Rattle.std.proofs.Common.{length, refl, arith}
 use Rattle.std.proofs.lemmas.Grind.{common_steps}
 use Rattle.std.specs.Prelude.{All}
 use Rattle.std.specs.List.{list_all}
-use Rattle.std.specs.Ordering.{bool_cmp, ordering_then}
+use Rattle.std.specs.Ordering.{bool_cmp}
 use Rattle.std.specs.Cmp.Lexicographic.{slice_cmp}
-use Rattle.std.specs.declared.cmp.Ordering.{Ordering}
-use Rattle.std.specs.declared.cmp.Ordering.TheVariants.{Less, Equal, Greater}
+use Rattle.std.specs.declared.cmp.Ordering.TheVariants.{Less, Equal}
 use Rattle.std.proofs.Math.Nat.{pow-le-pow_right}
 use Rattle.cps_base.specs.Limits.{most_waiting}
 use Rattle.landing_rules.specs.Problem.{Problem}
@@ -89,11 +88,6 @@ number_small ds few = search (rules, number_below, pow-le-pow_right)
 -- a state's stage, pattern and last rank as one number
 code : State → ℕ
 code s = (s.stage * 64 + number_of s.pattern) * 64 + s.last
-
-pub then_less : (a b : Ordering) → ordering_then a b ≡ Less → (a ≡ Less) ⊎ ((a ≡ Equal) × (b ≡ Less))
-then_less Less b e = inl refl
-then_less Equal b e = inr (refl, e)
-then_less Greater b e = absurd (cc)
 
 -- what is asked of a state that has such a number
 record IsCoded (width : ℕ) (s : State) : Type 0 where

@@ -7,7 +7,6 @@ use Rattle.std.specs.Prelude.{count_by}
 use Rattle.std.specs.declared.cmp.Ordering.TheVariants.{Less}
 use Rattle.std.proofs.Math.Nat.{mul-le-mul_right}
 use Rattle.std.proofs.lemmas.Bool.{eq-eqb}
-use Rattle.std.proofs.lemmas.List.Sums.{sum_by-cons}
 use Rattle.cps_theory.specs.Patterns.{IsShaped}
 use Rattle.cps_theory.specs.CertificateClosure.{node_cmp}
 use Rattle.certificate.specs.Patterns.{number_of}
@@ -35,9 +34,6 @@ abbrev digit_in : ℕ → ℕ → ℕ → Bool
 digit_in zero m j = false
 digit_in (suc n) m zero = leb (2 ^ n) m
 digit_in (suc n) m (suc j) = cond (leb (2 ^ n) m) (digit_in n (m - 2 ^ n) j) (digit_in n m j)
-
-count_head : (d : Bool) (ds : List Bool) → count_by (λ x. x) (d ∷ ds) ≡ cond d 1 0 + count_by (λ x. x) ds
-count_head d ds = simp (sum_by-cons)
 
 ones_are : (ds : List Bool) → ones_in (length ds) (number_of ds) ≡ count_by (λ d. d) ds
 ones_are [] = refl

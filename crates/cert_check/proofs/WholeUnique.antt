@@ -39,10 +39,6 @@ ascending [] h = tt
 ascending (a ∷ []) h = (λ b i. absurd i, tt)
 ascending (a ∷ b ∷ rest) h = search (rules, less_of, before_trans, ascending (b ∷ rest) h.1)
 
--- a node and its pairs as a state
-abbrev state_at : PatternNode → List Pair → State
-state_at w ps = record { stage = w.0; pattern = w.1; last = w.2; pairs = ps }
-
 module _ (p : Problem) where
   moved : (s t : State) → IsWholeState p s → IsWholeState p t → node_of s ≡ node_of t → (q : Pair)
       → InPairs q s.pairs → InPairs q t.pairs

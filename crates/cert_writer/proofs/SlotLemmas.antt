@@ -204,9 +204,6 @@ digits_equal xs ys e = ap (slice_cmp bool_cmp xs) (sym e) ∙ itself xs
     itself (true ∷ xs) = itself xs
     itself (false ∷ xs) = itself xs
 
-pub earlier_less : (d e : PatternNode) → d.0 < e.0 → node_cmp d e ≡ Less
-earlier_less d e lt = search rules
-
 pub lesser_less : (k : ℕ) (d e : PatternNode) (m n : ℕ) → d.0 ≡ e.0 → HasNumber k d m → HasNumber k e n
     → m < n → node_cmp d e ≡ Less
 lesser_less k d e m n at a b lt = search (rules, number_less, digits_equal, number_one)

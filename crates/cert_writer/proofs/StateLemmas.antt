@@ -1,5 +1,5 @@
 -- States written node by node.
-use Rattle.std.proofs.Common.{rules, ◌≡◌, ℕ, ◌+◌, ◌<◌, ◌≤◌, ◌⊎◌, inl, inr, List, [], ◌∷◌, ◌++◌, true, sym, ◌∙◌, arith}
+use Rattle.std.proofs.Common.{rules, ◌≡◌, ℕ, ◌+◌, ◌≤◌, ◌⊎◌, inl, inr, List, [], ◌∷◌, ◌++◌, true, sym, ◌∙◌, arith}
 use Rattle.std.specs.Prelude.{All}
 use Rattle.std.specs.List.{list_all}
 use Rattle.std.proofs.lemmas.List.Elements.{All-push}
@@ -36,11 +36,6 @@ module _ (k : ℕ) (Entry : PatternNode → Pair → Type 0) (stage number : ℕ
   below_still : All (λ s. ComesBelow k stage (number + 1) (node_of s)) ss
   below_still = search rules
 
-  -- no entry has this number
-  pub no_state : ((d : PatternNode) (q : Pair) → d.0 ≡ stage → HasNumber k d number → Entry d q → ⊥)
-      → AreWrittenBelow k Entry stage (number + 1) ss
-  no_state none = search rules
-
   -- the state of this number
   pub one_state : (s : State) → s.stage ≡ stage → HasNumber k (node_of s) number → HoldsEntries Entry s
       → list_all is_pair s.pairs ≡ true → AreWrittenBelow k Entry stage (number + 1) (ss ++ s ∷ [])
@@ -56,11 +51,6 @@ module _ (k : ℕ) (Entry : PatternNode → Pair → Type 0) (stage number : ℕ
         (inr (at, number, omega arith, has));
     in_range = All-push (λ t. list_all is_pair t.pairs ≡ true) ss s w.in_range pairs;
   }
-
-  -- with all numbers the stage is written
-  pub whole_stage : ((d : PatternNode) (q : Pair) → d.0 ≡ stage → Entry d q → (n : ℕ) × (n < number) × HasNumber k d n)
-      → AreWrittenBelow k Entry (stage + 1) 0 ss
-  whole_stage all = search rules
 
 -- with all stages all entries are held
 pub all_written : (k : ℕ) (Entry : PatternNode → Pair → Type 0) (last : ℕ) (ss : List State)

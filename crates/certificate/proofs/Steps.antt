@@ -1,9 +1,8 @@
 -- One more line of the text, and a line at which it fails.
-use Rattle.std.proofs.Common.{rules, ◌≡◌, ℕ, ◌<◌, length, List, [], ◌∷◌, Result, Ok, Err, inl, inr, refl}
-use Rattle.cps_base.specs.Answers.{Fails}
+use Rattle.std.proofs.Common.{rules, ◌≡◌, ℕ, ◌<◌, length, List, [], ◌∷◌, Ok, Err, refl}
 use Rattle.certificate.specs.declared.certificate.Claim.{Claim}
 use Rattle.certificate.specs.declared.fault.CertFault.{CertFault}
-use Rattle.certificate.specs.Reading.{Cert, Body, line_in, lines_in, memory_fault}
+use Rattle.certificate.specs.Reading.{Body, line_in, lines_in}
 
 pub line_stop : (n : ℕ) (c : Claim) (b : Body) (line : List ℕ) (e : CertFault) (rest : List (List ℕ)) (next : List ℕ)
     → line_in n b line ≡ Err e → lines_in n c b line (next ∷ rest) ≡ Err e
@@ -19,9 +18,3 @@ pub line_end : (n : ℕ) (c : Claim) (b : Body) (line : List ℕ) → length lin
     → lines_in n c b line [] ≡ Ok (record { claim = c; landings = b.0; states = b.1 })
 unfolding lines_in
 line_end n c b line e = rw e refl
-
--- a line that fails, fails the whole
-pub fails_too : (e : CertFault) (line : Result Body CertFault) (whole : Result Cert CertFault)
-    → Fails memory_fault e line → (line ≡ Err e → whole ≡ Err e) → Fails memory_fault e whole
-fails_too e line whole (inl memory) h = inl memory
-fails_too e line whole (inr f) h = inr (h f)

@@ -41,10 +41,6 @@ unfolding line_in
 line_printed n b line b' e = search
     (rules, no_states, landings_printed, landing_printed, states_printed, state_printed, append_assoc)
 
-no_bytes : (line : List ℕ) → length line == 0 ≡ true → line ≡ []
-no_bytes [] e = refl
-no_bytes (b ∷ line) e = search rules
-
 lines_printed : (n : ℕ) (c : Claim) (b : Body) (line : List ℕ) (rest : List (List ℕ)) (x : Cert)
     → lines_in n c b line rest ≡ Ok x → (landing_lines x.landings ++ state_lines x.states ≡ body_text b
     ++ join_with_byte 10 (line ∷ rest)) × (x.claim ≡ c)

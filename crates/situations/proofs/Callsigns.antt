@@ -2,11 +2,5 @@
 use Rattle.std.proofs.Common.{rules, ◌≡◌, ℕ, true, List}
 use Rattle.std.specs.Str.{bytes_eq}
 
-pub bytes_eq-refl : (c : List ℕ) → bytes_eq c c ≡ true
-bytes_eq-refl c = search rules
-
 pub bytes_eq-true : (c d : List ℕ) → bytes_eq c d ≡ true → c ≡ d
 bytes_eq-true c d h = search rules
-
-pub bytes_eq-sym : (c d : List ℕ) → bytes_eq c d ≡ bytes_eq d c
-bytes_eq-sym c d = search rules

@@ -1,5 +1,5 @@
 -- What a search of the flights finds among the frozen landings.
-use Rattle.std.proofs.Common.{rules, ◌≡◌, ℕ, ◌<◌, ◌≤◌, Bool, true, false, cond, ◌&&◌, List, [], ◌∷◌, Option, Some, None}
+use Rattle.std.proofs.Common.{rules, ◌≡◌, ℕ, ◌≤◌, Bool, cond, ◌&&◌, List, [], ◌∷◌, Option, Some, None}
 use Rattle.std.proofs.Common.{refl, arith}
 use Rattle.std.proofs.lemmas.Grind.{common_steps}
 use Rattle.std.specs.Prelude.{find, filter_map, option_map, is_some, nat_le, if◌then◌else◌}
@@ -48,18 +48,6 @@ in-order (f ∷ rest) = search (rules, order-insert, in-order rest)
 abbrev pub sooner : Bool → Landing → Option Landing → Option Landing
 sooner v f None = cond v (Some f) None
 sooner v f (Some g) = cond (v && nat_le f.second g.second) (Some f) (Some g)
-
-sooner-first : (f : Landing) (o : Option Landing) → ((x : Landing) → o ≡ Some x → f.second ≤ x.second)
-    → Some f ≡ sooner true f o
-sooner-first f None h = refl
-sooner-first f (Some g) h = search rules
-
-sooner-other : (f : Landing) (o : Option Landing) → o ≡ sooner false f o
-sooner-other f None = refl
-sooner-other f (Some g) = refl
-
-sooner-later : (v : Bool) (f g : Landing) → g.second < f.second → Some g ≡ sooner v f (Some g)
-sooner-later v f g lt = search rules
 
 found-late : (t : ℕ) (p : Landing → Bool) (all : List Landing) (g : Landing) → NoneBefore t all
     → find p all ≡ Some g → t ≤ g.second

@@ -3,7 +3,7 @@ use Rattle.std.proofs.Common.{rules, ◌≡◌, ℕ, ◌+◌, ◌≤◌, Bool, n
 use Rattle.std.proofs.Common.{Some, None, refl, sym, ap, ◌∙◌}
 use Rattle.std.proofs.lemmas.Grind.{common_steps}
 use Rattle.std.specs.Prelude.{filter_map, position, option_map}
-use Rattle.std.specs.List.{cons_option, position_from, enumerate_from}
+use Rattle.std.specs.List.{position_from, enumerate_from}
 use Rattle.std.specs.Option.{option_or}
 use Rattle.std.proofs.lemmas.List.{drop-drop}
 use Rattle.std.proofs.lemmas.Iterator.Adapters.{position_from-zero}
@@ -52,9 +52,6 @@ first_clashing table all n (x ∷ xs) e =
 
 module _ {X Y : Type 0} (h : X → Option Y) (xs : List X) (i : ℕ) (x : X) (done whole : List Y)
     (here : drop i xs ≡ x ∷ drop (i + 1) xs) (e : done ++ filter_map h (drop i xs) ≡ whole) where
-  given_step : (o : Option Y) → h x ≡ o → done ++ cons_option o (filter_map h (drop (i + 1) xs)) ≡ whole
-  given_step o k = cc
-
   pub given_more : (y : Y) → h x ≡ Some y → (done ++ y ∷ []) ++ filter_map h (drop (i + 1) xs) ≡ whole
   given_more y k = grind (arith, common_steps)
 

@@ -2,7 +2,7 @@
 use Rattle.std.proofs.Common.{rules, ◌≡◌, ℕ, zero, suc, ◌+◌, ◌<◌, Bool, true, false, cond, ◌&&◌, List, [], ◌∷◌, ◌++◌}
 use Rattle.std.proofs.Common.{length, map, set, take, Option, Some, None, get_or, refl, ap, ap₂, ◌∙◌, arith}
 use Rattle.std.proofs.lemmas.Grind.{common_steps}
-use Rattle.std.specs.Prelude.{nat_lt, zip, is_none, count_by, filter}
+use Rattle.std.specs.Prelude.{nat_lt, zip, is_none, filter}
 use Rattle.landing_rules.specs.Flights.{Callsign, Flight, Active, Aerodrome, Landing, landing, landings}
 use Rattle.landing_rules.specs.Events.{after_clock, look_up, passed_after, freezes}
 use Rattle.situations.specs.Freezes.{arrival, arrival_if, freezing, count_after, frozen_one, IsFreezeOf}
@@ -118,20 +118,10 @@ kept-map : (test : ℕ × List ℕ → Bool) (all : List Landing)
 kept-map test [] = refl
 kept-map test (g ∷ all) = grind (arith, common_steps, kept-map test all)
 
-count-map : (test : ℕ × List ℕ → Bool) (all : List Landing)
-    → count_by test (map (λ (g : Landing). arrival g.flight) all) ≡ count_by
-    (λ (g : Landing). test (arrival g.flight)) all
-count-map test all = grind (arith, common_steps)
-
 -- the count that the rules give
 count_is : (a : Aerodrome) (h : ℕ) (active : List Active) (ts : List ℕ) (z : Freeze) → IsFreezeOf a h active ts z
     → (x : Active) (t : ℕ) → count_after z x ≡ passed_after a h (landings active ts) (landing x t)
 count_is a h active ts z of x t = grind (arith, common_steps)
-
--- what a clock event makes of a flight
-one_after : (a : Aerodrome) (h : ℕ) (active : List Active) (ts : List ℕ) (z : Freeze) → IsFreezeOf a h active ts z
-    → (x : Active) (t : ℕ) → frozen_one z x t ≡ after_clock a h (landings active ts) (landing x t)
-one_after a h active ts z of x t = grind (arith, common_steps)
 
 pub frozen_flights : (a : Aerodrome) (h : ℕ) (active : List Active) (all : List ℕ) (z : Freeze)
     → IsFreezeOf a h active all z → (xs : List Active) (ts : List ℕ) →

@@ -33,15 +33,8 @@ Entry = Callsign × Active
 abbrev pub Keyed : List Entry → Type 0
 Keyed es = keys_of es ≡ map name_of (values_of es)
 
-head_keyed : (e : Entry) (es : List Entry) → Keyed (e ∷ es) → e.0 ≡ name_of e.1
-head_keyed e es h = cc
-
 tail_keyed : (e : Entry) (es : List Entry) → Keyed (e ∷ es) → Keyed es
 tail_keyed e es h = cc
-
--- the test of a key is the test of its flight
-keyed_named : (c : Callsign) (e : Entry) (es : List Entry) → Keyed (e ∷ es) → named c e.1 ≡ bytes_eq c e.0
-keyed_named c e es h = search rules
 
 -- ---- look-ups
 
@@ -193,17 +186,10 @@ put_back [] i x at = cc
 put_back (y ∷ ys) zero x at = cc
 put_back (y ∷ ys) (suc i) x at = cc (put_back ys i x at)
 
-pub all_but_last : {X : Type 0} (xs : List X) (x : X) → take (length (xs ++ x ∷ []) - 1) (xs ++ x ∷ []) ≡ xs
-all_but_last xs x = grind (arith, common_steps)
-
 -- the one at place i, moved last
 module _ {X : Type 0} (xs : List X) (i : ℕ) (x : X) (at : slice_get xs i ≡ Some x) where
   moved : move_index xs i (length xs - 1) ≡ remove xs i ++ x ∷ []
   moved = moved_last xs i x at
-
-  -- it can be left out
-  pub last_gone : take (length (move_index xs i (length xs - 1)) - 1) (move_index xs i (length xs - 1)) ≡ remove xs i
-  last_gone = simp (moved, all_but_last)
 
   -- and goes back
   pub moved_back : move_index (move_index xs i (length xs - 1)) (length (move_index xs i (length xs - 1)) - 1) i ≡ xs
@@ -224,12 +210,6 @@ values_set (e ∷ es) zero a = refl
 values_set (e ∷ es) (suc i) a = cc (values_set es i a)
 
 -- ---- the keys stay those of the flights
-
-pub keyed_pushed : (es : List Entry) (e : Entry) → Keyed es → e.0 ≡ name_of e.1 → Keyed (es ++ e ∷ [])
-keyed_pushed es e h k = grind (arith, common_steps)
-
-pub values_pushed : (es : List Entry) (e : Entry) → values_of (es ++ e ∷ []) ≡ values_of es ++ e.1 ∷ []
-values_pushed es e = grind (arith, common_steps)
 
 pub values_moved : (es fs : List Entry) (a b : ℕ) → fs ≡ move_index es a b
     → values_of fs ≡ move_index (values_of es) a b

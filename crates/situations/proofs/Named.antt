@@ -9,9 +9,8 @@ use Rattle.std.specs.Str.{bytes_eq}
 use Rattle.landing_rules.specs.Flights.{Active, Callsign, Situation, is_waiting}
 use Rattle.landing_rules.specs.Events.{look_up, named}
 use Rattle.arrivals.specs.declared.frozen_list.FrozenLanding.{FrozenLanding}
-use Rattle.arrivals.specs.declared.passed_list.PassedCount.{PassedCount}
 use Rattle.situations.specs.Changes.{counts_of}
-use Rattle.situations.specs.Opened.{counts_in, seconds_in}
+use Rattle.situations.specs.Opened.{seconds_in}
 use Rattle.situations.specs.Named.{counted, frozen_so, waiting_again, with_count, with_second}
 use Rattle.situations.specs.Seen.{AreApart}
 use Rattle.situations.proofs.Apart.{tail_apart}
@@ -111,7 +110,3 @@ own_count (x ∷ xs) apart (suc i) d lt = go (is_waiting x) (own_count xs (tail_
 -- each flight as the entries of `frozen` say
 abbrev pub seconds_on : List FrozenLanding → Situation → Situation
 seconds_on entries s = record s { active = listed with_second (seconds_in entries) s.active }
-
--- each flight as the entries of `passed` say
-abbrev pub counts_on : List PassedCount → Situation → Situation
-counts_on entries s = record s { active = listed with_count (counts_in entries) s.active }
