@@ -14,8 +14,8 @@ pub record Prints (puts : ℕ) (P : List ℕ → Type 0) (old new : SinkState) :
   pub admitted : P text
   pub written : Wrote puts old new text
 
--- What a command does that may print the texts that Admits says, with these answers and in so many puts, after the
--- first of which what Stands says stands, and that refuses for the causes of Refuses, with this ending.
+-- What a command does, by its ending. With an answer it has printed a text that Admits says, in so many puts. Where a
+-- put failed or memory ran out, what Stands says of the puts before stands whole. It refuses for the causes of Refuses.
 abbrev pub FollowsBy : ℕ → (List ℕ → Answer → Type 0) → (ℕ → List ℕ → Type 0) → (FilesFault → Type 0) → SinkState
     → SinkState → Ending → Type 0
 FollowsBy puts Admits Stands Refuses old new (Answered answer) = Prints puts (λ text. Admits text answer) old new
@@ -28,7 +28,7 @@ FollowsBy puts Admits Stands Refuses old new ending = ⊥
 abbrev pub HasAnswer : (List ℕ → Answer → Type 0) → List ℕ → Type 0
 HasAnswer Admits text = (answer : Answer) × Admits text answer
 
--- what stands of such a text after so many puts that is put at once
+-- what stands after so many puts of a text that is put at once
 abbrev pub StandsAtOnce : (List ℕ → Answer → Type 0) → ℕ → List ℕ → Type 0
 StandsAtOnce Admits puts text = (puts ≡ 1) × HasAnswer Admits text
 
