@@ -5,7 +5,7 @@ use Rattle.std.specs.Str.Lossy.{utf8_valid_len}
 use Rattle.toml.specs.Data.{Data, string, Members, get_member}
 use Rattle.toml.specs.Parse.{parse_document}
 use Rattle.cps_base.specs.Answers.{◌>>=◌}
-use Rattle.cps_base.specs.Limits.{longest_freeze}
+use Rattle.cps_base.specs.Limits.{greatest_k, longest_freeze}
 use Rattle.landing_rules.specs.declared.objective.Objective.{Objective}
 use Rattle.landing_rules.specs.declared.objective.Objective.TheVariants.{Makespan, Delay}
 use Rattle.arrivals.specs.declared.aerodrome.Aerodrome.{Aerodrome}
@@ -37,7 +37,7 @@ objective_in (Some d) = Err (fault.WrongKind key.Objective)
 unfoldable pub aerodrome_in : Members → Result Aerodrome AeroFault
 aerodrome_in ms = do
   version ← version_in ms
-  k ← number_in key.K 0 3 (get_member (codes "k") ms)
+  k ← number_in key.K 0 greatest_k (get_member (codes "k") ms)
   freeze ← number_in key.Freeze 0 longest_freeze (get_member (codes "freeze") ms)
   objective ← objective_in (get_member (codes "objective") ms)
   rows ← table_in (get_member (codes "table") ms)

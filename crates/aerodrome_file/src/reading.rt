@@ -15,7 +15,7 @@ use crate::separations::table_in;
 use crate::values::{get, number_in};
 use crate::version::version_in;
 use arrivals::{Aerodrome, is_beyond};
-use cps_base::LONGEST_FREEZE;
+use cps_base::{GREATEST_K, LONGEST_FREEZE};
 use landing_rules::Objective;
 use std::alloc::Global;
 use toml::de::Error;
@@ -69,7 +69,7 @@ fn aerodrome_in(alloc: Global, table: &Table) -> Result<Aerodrome, AeroFault>
     ensures range { IfOk result IsInRange }
 {
     let version = version_in(table)?;
-    let k = number_in(Key::K, 0, 3, get(table, "k"))?;
+    let k = number_in(Key::K, 0, GREATEST_K as u32, get(table, "k"))?;
     let freeze = number_in(Key::Freeze, 0, LONGEST_FREEZE, get(table, "freeze"))?;
     let objective = objective_in(get(table, "objective"))?;
     let separations = table_in(get(table, "table"))?;

@@ -1,7 +1,7 @@
 -- The aerodromes that a file can give. Tables and closures are good ones by their types.
 use Rattle.std.specs.Prelude.{◌≡◌, ◌≢◌, ◌≤◌, ◌<◌, ℕ, List, [], Bool, true, false, ◌==◌, ◌&&◌, ◌+◌, nat_lt, length}
 use Rattle.std.specs.Prelude.{Option, Some, None, All, AllPairs, if◌then◌else◌}
-use Rattle.cps_base.specs.Limits.{longest_freeze, most_flights, most_waiting}
+use Rattle.cps_base.specs.Limits.{greatest_delay_k, greatest_k, longest_freeze, most_flights, most_waiting}
 use Rattle.landing_rules.specs.Rules.{last_second}
 use Rattle.landing_rules.specs.declared.objective.Objective.{Objective}
 use Rattle.landing_rules.specs.declared.objective.Objective.TheVariants.{Makespan, Delay}
@@ -20,7 +20,7 @@ is_delay Delay = true
 
 -- the greatest shift that delay takes in a version
 abbrev pub most_shift : ℕ → ℕ
-most_shift version = if version == 1 then 1 else 2
+most_shift version = if version == 1 then 1 else greatest_delay_k
 
 -- the objective does not take this shift in the version
 abbrev pub is_beyond : ℕ → ℕ → Objective → Bool
@@ -60,7 +60,7 @@ pub record ArePassed (k : ℕ) (ps : List PassedCount) : Type 0 where
 -- numbers in their ranges, a shift that the objective takes, and nothing that the version does not have
 pub record IsInRange (a : Aerodrome) : Type 0 where
   pub version : IsVersion a.version
-  pub k : a.k ≤ 3
+  pub k : a.k ≤ greatest_k
   pub freeze : a.freeze ≤ longest_freeze
   pub shift : is_delay a.objective ≡ true → a.k ≤ most_shift a.version
   pub clock : IsClock a.clock

@@ -1,24 +1,26 @@
 ghost use Rattle.std.specs.Prelude.{◌≡◌, ◌≤◌, ◌<◌, ◌++◌, ◌∷◌, [], length, bytes_eq, slice_get, Some};
 ghost use Rattle.std.specs.List.{list_any};
+ghost use Rattle.cps_base.specs.Limits.{most_predecessors};
 
-use cps_base::Callsign;
+use cps_base::{Callsign, MOST_PREDECESSORS};
 use std::marker::Model;
 
 /// The callsigns of at most four predecessors, kept in place. Contracts see their list.
 #[derive(Drop)]
 pub struct After {
-    names: [Callsign; 4],
+    names: [Callsign; MOST_PREDECESSORS],
     len: usize,
 }
 
 impl Model for After {
     ghost use Rattle.std.specs.Prelude.{◌≡◌, ◌≤◌, ℕ, List, take, length};
+    ghost use Rattle.cps_base.specs.Limits.{most_predecessors};
 
     ghost Value = { List (List ℕ) };
 
     ghost view = { λ a. take a.len a.names };
 
-    ghost invariant = { λ a. (a.len ≤ 4) × (length a.names ≡ 4) };
+    ghost invariant = { λ a. (a.len ≤ most_predecessors) × (length a.names ≡ most_predecessors) };
 }
 
 impl After {
@@ -27,14 +29,14 @@ impl After {
         ensures { result ≡ [] }
     {
         After {
-            names: [own; 4],
+            names: [own; MOST_PREDECESSORS],
             len: 0,
         }
     }
 
     /// One predecessor more.
     pub fn push(&mut self, name: Callsign)
-        requires { length self.old < 4 }
+        requires { length self.old < most_predecessors }
         ensures { self.new ≡ self.old ++ name ∷ [] }
     {
         self.names[self.len] = name;
@@ -51,7 +53,7 @@ impl After {
     /// The callsigns, in their order.
     pub fn names(&self) -> &[Callsign]
         ensures value { result.now ≡ self.now }
-        ensures few { length self.now ≤ 4 }
+        ensures few { length self.now ≤ most_predecessors }
     {
         &self.names[..self.len]
     }
@@ -69,7 +71,7 @@ impl After {
     /// How many there are, at most four.
     pub fn len(&self) -> usize
         ensures value { result ≡ length self.now }
-        ensures few { result ≤ 4 }
+        ensures few { result ≤ most_predecessors }
     {
         self.len
     }

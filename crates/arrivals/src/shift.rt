@@ -2,13 +2,14 @@
 ghost use Rattle.std.specs.Prelude.{◌≡◌};
 ghost use Rattle.arrivals.specs.Aerodromes.{most_shift, is_beyond};
 
+use cps_base::GREATEST_DELAY_K;
 use landing_rules::Objective;
 
 // The greatest shift that delay takes in a version.
 fn most_shift(version: u8) -> u8
     ensures { result ≡ most_shift version }
 {
-    if version == 1 { 1 } else { 2 }
+    if version == 1 { 1 } else { GREATEST_DELAY_K }
 }
 
 /// Whether the objective does not take the shift `k` in a version of the aerodrome file, 1 to 3. Delay takes at most one

@@ -8,7 +8,7 @@ use Rattle.std.specs.Ordering.{bool_cmp}
 use Rattle.std.specs.Cmp.Lexicographic.{slice_cmp}
 use Rattle.std.specs.declared.cmp.Ordering.TheVariants.{Less, Equal}
 use Rattle.std.proofs.Math.Nat.{pow-le-pow_right}
-use Rattle.cps_base.specs.Limits.{most_waiting}
+use Rattle.cps_base.specs.Limits.{greatest_word, most_waiting}
 use Rattle.landing_rules.specs.Problem.{Problem}
 use Rattle.cps_theory.specs.Separation.{Landing}
 use Rattle.cps_theory.specs.LandingTrail.{ranks}
@@ -121,7 +121,7 @@ module _ (p : Problem) (well : IsWellFormed p) where
   coded s h = grind (arith, shape p well s h)
 
   pub whole_in_form : (ss : List State) → AreWholeStates p ss → All (λ s. list_all is_pair s.pairs ≡ true) ss
-      → AreStates ss × (length ss < 4294967295)
+      → AreStates ss × (length ss < greatest_word)
   whole_in_form ss h pairs =
       let few = few_from (2 * p.k) (omega arith) ss 0 (ascending ss h.ascending)
       (λ s i. (coded s (all_at (IsWholeState p) ss h.each s i), omega arith)) (omega arith) in search

@@ -7,6 +7,7 @@ use Rattle.std.specs.Prelude.{count_by}
 use Rattle.std.specs.declared.cmp.Ordering.TheVariants.{Less}
 use Rattle.std.proofs.Math.Nat.{mul-le-mul_right}
 use Rattle.std.proofs.lemmas.Bool.{eq-eqb}
+use Rattle.cps_base.specs.Limits.{greatest_k}
 use Rattle.cps_theory.specs.Patterns.{IsShaped}
 use Rattle.cps_theory.specs.CertificateClosure.{node_cmp}
 use Rattle.certificate.specs.Patterns.{number_of}
@@ -67,7 +68,7 @@ module _ (t : ℕ → Bool) where
   passing_more : (c d : ℕ) → t c ≡ true → c < d → passing t c + 1 ≤ passing t d
   passing_more c d here lt = grind (arith, passing_on (suc c) (d - suc c))
 
-few_of : (k : ℕ) → k ≤ 3 → passing (is_of_state k) (8 * 2 ^ (2 * k)) ≡ most_nodes k
+few_of : (k : ℕ) → k ≤ greatest_k → passing (is_of_state k) (8 * 2 ^ (2 * k)) ≡ most_nodes k
 few_of zero le = refl
 few_of (suc zero) le = refl
 few_of (suc (suc zero)) le = refl
@@ -82,7 +83,7 @@ number k s = number_of s.pattern * 8 + (s.last + k - s.stage)
 abbrev Shaped : ℕ → ℕ → State → Type 0
 Shaped k n s = IsShaped k n (node_of s)
 
-module _ (k n : ℕ) (narrow : k ≤ 3) where
+module _ (k n : ℕ) (narrow : k ≤ greatest_k) where
   parts : (s : State) → Shaped k n s → (number k s / 8 ≡ number_of s.pattern) × (number k s % 8 ≡ s.last + k - s.stage)
   parts s h = omega arith
 

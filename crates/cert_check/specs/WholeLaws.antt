@@ -1,6 +1,7 @@
 -- What holds of certificates that leave nothing out.
 use Rattle.std.specs.Prelude.{◌≡◌, ℕ, ◌≤◌, ◌<◌, List, All, length, map, reverse, true}
 use Rattle.std.specs.List.{list_all}
+use Rattle.cps_base.specs.Limits.{greatest_word}
 use Rattle.landing_rules.specs.Flights.{Schedule}
 use Rattle.landing_rules.specs.Problem.{Problem, IsBestList, list_objective}
 use Rattle.cps_theory.specs.RankLists.{Distinct, IsRank, of_rank}
@@ -43,7 +44,7 @@ WholeIsUniqueLaw = (p : Problem) (ss ts : List State) → AreWholeStates p ss �
 abbrev pub WholeIsInFormLaw : Type 0
 WholeIsInFormLaw = (p : Problem) (ss : List State) → IsWellFormed p → AreWholeStates p ss
     → All (λ s. list_all is_pair s.pairs ≡ true) ss
-    → AreStates ss × (length ss < 4294967295)
+    → AreStates ss × (length ss < greatest_word)
 
 -- the landings of an order of ranks at the seconds of a list
 abbrev pub landings_in : Problem → Schedule → List ℕ → Landings

@@ -2,7 +2,7 @@
 ghost use Rattle.std.specs.Prelude.{◌≡◌, ◌≤◌, ◌<◌, ◌+◌, ◌-◌, true, false, length, Some, None, nat_le};
 ghost use Rattle.std.specs.List.{list_any, list_all};
 ghost use Rattle.std.specs.List.Sorted.{IsBinarySearchResult, IsSearchInRange};
-ghost use Rattle.cps_base.specs.Limits.{most_waiting};
+ghost use Rattle.cps_base.specs.Limits.{greatest_word, most_waiting};
 ghost use Rattle.landing_rules.specs.Rules.{last_second};
 ghost use Rattle.cps_theory.specs.Labels.{no_worse};
 ghost use Rattle.cps_theory.specs.CertificateClosure.{node_cmp};
@@ -161,7 +161,7 @@ fn missed_at(problem: &Problem, states: &[CertState], state: &CertState) -> Opti
 
 // The first state from the first on, and rank, whose successor pair is not covered.
 fn missed_state(problem: &Problem, states: &[CertState]) -> Option<(u32, u8)>
-    requires few { length states.now < 4294967295 }
+    requires few { length states.now < greatest_word }
     requires ascending { AreAscending states.now }
     requires shaped { shape_failure problem.now states.now ≡ None }
     ensures { result ≡ missed_from problem.now states.now 1 states.now }
@@ -174,7 +174,7 @@ fn missed_state(problem: &Problem, states: &[CertState]) -> Option<(u32, u8)>
 
 // The first state and rank whose successor pair is not covered, the start being state 0.
 pub(crate) fn successor_failure(problem: &Problem, states: &[CertState]) -> Option<(u32, u8)>
-    requires few { length states.now < 4294967295 }
+    requires few { length states.now < greatest_word }
     requires ascending { AreAscending states.now }
     requires shaped { shape_failure problem.now states.now ≡ None }
     ensures { result ≡ successor_failure problem.now states.now }

@@ -1,4 +1,5 @@
 ghost use Rattle.std.specs.Prelude.{◌≡◌, ◌<◌, length, ℕ};
+ghost use Rattle.cps_base.specs.Limits.{greatest_word};
 ghost use Rattle.certificate.specs.States.{AreAscending};
 ghost use Rattle.certificate.specs.Reading.{AreLandings};
 ghost use Rattle.cert_check.specs.Meaning.{IsShownOptimal, NothingIsFeasible};
@@ -47,7 +48,7 @@ fn landing_reason(problem: &Problem, claimed: u64, landings: &[(Callsign, u32)])
 // The first state that is misshapen, misses a successor, or contradicts the claim.
 #[tactic(auto, unfolding(crate::specs::Verdict::state_reason))]
 fn state_reason(problem: &Problem, claim: Claim, states: &[CertState]) -> Option<Reason>
-    requires few { length states.now < 4294967295 }
+    requires few { length states.now < greatest_word }
     requires ascending { AreAscending states.now }
     ensures { result ≡ state_reason problem.now claim states.now }
 {

@@ -1,6 +1,6 @@
 // A stage of a landing order with its pattern and its last rank, and the node behind it by one more rank.
 ghost use Rattle.std.specs.Prelude.{◌≡◌, ◌≤◌, ◌<◌, ◌*◌, ◌+◌, ◌-◌, suc, [], length};
-ghost use Rattle.cps_base.specs.Limits.{most_waiting};
+ghost use Rattle.cps_base.specs.Limits.{greatest_k, most_waiting};
 ghost use Rattle.cps_theory.specs.Patterns.{pattern_digit, pattern_node, pattern_push, tests_from};
 ghost use Rattle.cps_theory.specs.CertificateClosure.{is_placed_by_pattern, node_cmp};
 ghost use Rattle.certificate.specs.Patterns.{bits};
@@ -29,7 +29,7 @@ pub(crate) fn digit(pattern: &Pattern, j: u8) -> bool
 
 #[tactic(auto, unfolding(cps_theory::specs::CertificateClosure::is_placed_by_pattern))]
 pub(crate) fn is_placed(k: u8, node: &StateNode, rank: u8) -> bool
-    requires k { k ≤ 3 }
+    requires k { k ≤ greatest_k }
     requires rank { rank ≤ 200 }
     requires stage { node.now.stage ≤ most_waiting }
     ensures { result ≡ is_placed_by_pattern k (seen node.now) rank }
@@ -63,7 +63,7 @@ pub(crate) fn compare(state: &CertState, node: &StateNode) -> Ordering
 
 // Whether the rank of `rank + k = stage + 1 + j` is placed, when `rank` has come next.
 fn pushed_digit(k: u8, node: &StateNode, rank: u8, j: u8) -> bool
-    requires k { k ≤ 3 }
+    requires k { k ≤ greatest_k }
     requires rank { rank ≤ most_waiting }
     requires stage { node.now.stage ≤ most_waiting }
     requires j { (1 ≤ j) × (j ≤ 6) }
@@ -74,7 +74,7 @@ fn pushed_digit(k: u8, node: &StateNode, rank: u8, j: u8) -> bool
 
 // The digits behind a node by one more rank, as the bits of a number.
 fn pushed_ones(k: u8, node: &StateNode, rank: u8) -> u8
-    requires k { k ≤ 3 }
+    requires k { k ≤ greatest_k }
     requires rank { rank ≤ most_waiting }
     requires stage { node.now.stage ≤ most_waiting }
     ensures { bits (2 * k) result ≡ tests_from (pushed_digit k (seen node.now) rank)
@@ -103,7 +103,7 @@ pub(crate) fn pushed(problem: &Problem, node: &StateNode, rank: u8) -> StateNode
 
 // The digits of the start, where each rank below 1 is placed and no other, as the bits of a number.
 fn start_ones(k: u8) -> u8
-    requires { k ≤ 3 }
+    requires { k ≤ greatest_k }
     ensures { bits (2 * k) result ≡ tests_from (pattern_digit k []) 1 (2 * k) }
 {
     match k {

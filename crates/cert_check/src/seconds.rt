@@ -1,6 +1,6 @@
 // The second at which the landings let a rank land, and what all of them are worth.
 ghost use Rattle.std.specs.Prelude.{◌≡◌, ◌≤◌, ◌-◌, ◌*◌, ◌+◌, slice_get, Some};
-ghost use Rattle.cps_base.specs.Limits.{most_waiting};
+ghost use Rattle.cps_base.specs.Limits.{dearest_landing, most_waiting};
 ghost use Rattle.landing_rules.specs.Problem.{list_objective};
 ghost use Rattle.cps_theory.specs.RankLists.{upto};
 ghost use Rattle.cps_theory.specs.Feasible.{earlier, greatest, total};
@@ -68,7 +68,7 @@ fn total_cost(problem: &Problem, landings: &[(Callsign, u32)]) -> u64
     requires { AreLandings landings.now }
     ensures value { result ≡ total (λ r. cost_at problem.now r
         (second problem.now landings.now r)) (upto (count problem.now)) }
-    ensures small { result ≤ 17279900 * count problem.now }
+    ensures small { result ≤ dearest_landing * count problem.now }
 {
     (1..problem.len() + 1)
         .map(|rank| u64::from(problem.cost(rank, second(problem, landings, rank))))

@@ -1,7 +1,7 @@
 // The shape of the states, and the states of the last stage.
 ghost use Rattle.std.specs.Prelude.{◌≡◌, ◌≤◌, ◌<◌, ◌+◌, ◌*◌, length, count_by, nat_lt};
 ghost use Rattle.std.specs.List.{list_any};
-ghost use Rattle.cps_base.specs.Limits.{most_waiting};
+ghost use Rattle.cps_base.specs.Limits.{greatest_k, greatest_word, most_waiting};
 ghost use Rattle.cps_theory.specs.FirstFound.{first_from, element_from};
 ghost use Rattle.landing_joint.specs.RankedProblem.{value_at};
 ghost use Rattle.cert_check.specs.Landings.{count};
@@ -15,7 +15,7 @@ use cps_problem::Problem;
 
 // Digit j tells of a rank below 1 that it is not placed, or of a rank above n that it is.
 fn is_wrong_digit(k: u8, n: u8, node: &StateNode, j: u8) -> bool
-    requires k { k ≤ 3 }
+    requires k { k ≤ greatest_k }
     requires n { n ≤ most_waiting }
     requires stage { node.now.stage ≤ most_waiting }
     requires j { (1 ≤ j) × (j ≤ 6) }
@@ -27,7 +27,7 @@ fn is_wrong_digit(k: u8, n: u8, node: &StateNode, j: u8) -> bool
 }
 
 fn wrong_digit(k: u8, n: u8, node: &StateNode) -> Option<u8>
-    requires k { k ≤ 3 }
+    requires k { k ≤ greatest_k }
     requires n { n ≤ most_waiting }
     requires stage { node.now.stage ≤ most_waiting }
     ensures { result ≡ first_from (is_wrong_digit k n (seen node.now)) 1 (2 * k) }
@@ -67,7 +67,7 @@ fn is_misshapen(problem: &Problem, state: &CertState) -> bool
 
 // The first state without the right shape.
 pub(crate) fn shape_failure(problem: &Problem, states: &[CertState]) -> Option<u32>
-    requires { length states.now < 4294967295 }
+    requires { length states.now < greatest_word }
     ensures { result ≡ shape_failure problem.now states.now }
 {
     states
@@ -89,7 +89,7 @@ fn is_final_below(problem: &Problem, value: u64, state: &CertState) -> bool
 }
 
 fn first_final_below(problem: &Problem, value: u64, states: &[CertState]) -> Option<u32>
-    requires { length states.now < 4294967295 }
+    requires { length states.now < greatest_word }
     ensures { result ≡ element_from (is_final_below problem.now value) 1 states.now }
 {
     states
@@ -99,7 +99,7 @@ fn first_final_below(problem: &Problem, value: u64, states: &[CertState]) -> Opt
 }
 
 fn first_final(problem: &Problem, states: &[CertState]) -> Option<u32>
-    requires { length states.now < 4294967295 }
+    requires { length states.now < greatest_word }
     ensures { result ≡ element_from (is_final problem.now) 1 states.now }
 {
     let n = problem.len();
@@ -111,7 +111,7 @@ fn first_final(problem: &Problem, states: &[CertState]) -> Option<u32>
 
 // The first state that contradicts the claim; with no flight the start is one of the last stage.
 pub(crate) fn final_failure(problem: &Problem, claim: Claim, states: &[CertState]) -> Option<u32>
-    requires { length states.now < 4294967295 }
+    requires { length states.now < greatest_word }
     ensures { result ≡ final_failure problem.now claim states.now }
 {
     match claim {

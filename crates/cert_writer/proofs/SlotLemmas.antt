@@ -6,6 +6,7 @@ use Rattle.std.specs.Prelude.{◌↔◌, ◌⊎◌, max, bit_or}
 use Rattle.std.specs.Int.{bit_at, reverse_bits, reverse_bits_onto, w8}
 use Rattle.std.proofs.lemmas.Nat.{one_shl, shl_whole, pow_pos, div-mul-add}
 use Rattle.std.proofs.lemmas.Nat.Bits.{bit_at_or, bit_at_ones, bit_at_ones_above, bit_at-suc}
+use Rattle.cps_base.specs.Limits.{greatest_k}
 use Rattle.precedence.specs.Pairs.{HasBit}
 use Rattle.std.specs.Ordering.{bool_cmp}
 use Rattle.std.specs.declared.cmp.Ordering.TheVariants.{Less, Equal}
@@ -101,7 +102,7 @@ turned_onto (suc m) d n j rest ones h low =
       subst (λ i. t.0 < 2 ^ i) e t.3,
     )
 
-pub turned_bits : (k n r : ℕ) → k ≤ 3 → n < 2 ^ (2 * k) → r ≡ reverse_bits w8 (n * 2 ^ 1 % 256)
+pub turned_bits : (k n r : ℕ) → k ≤ greatest_k → n < 2 ^ (2 * k) → r ≡ reverse_bits w8 (n * 2 ^ 1 % 256)
     → (number_of (bits (2 * k) (r / 2 ^ (7 - 2 * k))) ≡ n) × (r / 2 ^ (7 - 2 * k) < 2 ^ (2 * k))
 unfolding reverse_bits_onto
 turned_bits k n r near low is =
@@ -185,7 +186,7 @@ pub number_slot : (k : ℕ) (d : PatternNode) (n ones : ℕ) → HasNumber k d n
 number_slot k d n ones h turned low = search (rules, number_one, length_bits)
 
 -- a node near its stage has a number
-pub number_near : (k : ℕ) (d : PatternNode) → k ≤ 3 → length d.1 ≡ 2 * k → d.0 ≤ d.2 + k → d.2 ≤ d.0 + k
+pub number_near : (k : ℕ) (d : PatternNode) → k ≤ greatest_k → length d.1 ≡ 2 * k → d.0 ≤ d.2 + k → d.2 ≤ d.0 + k
     → (n : ℕ) × (n < 8 * 2 ^ (2 * k)) × HasNumber k d n
 number_near k d few long low high =
     let v = number_of d.1 in
@@ -218,7 +219,7 @@ shifted_bit a zero y le = search rules
 shifted_bit a (suc k) zero le = omega arith
 shifted_bit a (suc k) (suc y) le = search (rules, bit_at-suc, double_at, shifted_bit a k y (omega (arith, le)))
 
-pub marks_bits : (k placed : ℕ) → k ≤ 3 → placed < 2 ^ 64 → (y : ℕ)
+pub marks_bits : (k placed : ℕ) → k ≤ greatest_k → placed < 2 ^ 64 → (y : ℕ)
     → HasBit (bit_or (placed * 2 ^ k % 340282366920938463463374607431768211456)
     (1 * 2 ^ (k + 1) % 340282366920938463463374607431768211456 - 1)) y ↔ ((y ≤ k) ⊎ ((k < y) × HasBit placed (y - k)))
 marks_bits k placed near fits y =

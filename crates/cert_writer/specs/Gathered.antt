@@ -1,5 +1,6 @@
 -- The pairs of the windows of a stage, put together by the slot of their node.
 use Rattle.std.specs.Prelude.{◌≡◌, ℕ, ℤ, ◌*◌, ◌^◌, ◌<◌, ◌≤◌, ◌⊎◌, List, length, All}
+use Rattle.cps_base.specs.Limits.{greatest_word}
 use Rattle.landing_rules.specs.Problem.{Problem}
 use Rattle.landing_rules.specs.Rules.{last_second}
 use Rattle.cps_theory.specs.Labels.{InPairs, NoWorse, Pair}
@@ -15,7 +16,7 @@ use Rattle.cert_writer.specs.Slots.{HasSlot}
 
 -- a pair's second is one of the two days, and its cost a number of a certificate
 abbrev pub IsPairInRange : Pair → Type 0
-IsPairInRange q = (q.0 ≤ last_second) × (q.1 ≤ 4294967295)
+IsPairInRange q = (q.0 ≤ last_second) × (q.1 ≤ greatest_word)
 
 -- a list has such pairs alone; and of each such pair one that is no later and no dearer
 abbrev pub HasOnly : List Pair → (Pair → Type 0) → Type 0

@@ -1,6 +1,7 @@
 //! The pairs of the windows of a stage, put together by node.
 
 ghost use Rattle.std.specs.Prelude.{◌≡◌, ◌≤◌, ◌*◌, ◌^◌, [], IfOk, IsTrue, Some, length, replicate};
+ghost use Rattle.cps_base.specs.Limits.{greatest_k};
 ghost use Rattle.landing_rules.specs.declared.objective.Objective.TheVariants.{Makespan};
 ghost use Rattle.replan.specs.Kept.{held_of, problem_held};
 ghost use Rattle.replan.specs.Readers.{stage_in};
@@ -17,7 +18,7 @@ use std::alloc::{AllocError, Global};
 
 // A slot without pairs for each node of a stage.
 fn empty_slots(alloc: Global, k: u8) -> Result<Vec<NodePairs>, AllocError>
-    requires { k ≤ 3 }
+    requires { k ≤ greatest_k }
     ensures { IfOk result (λ slots. slots.items ≡ replicate (8 * 2 ^ (2 * k)) []) }
 {
     let room = 8usize << (2 * k);

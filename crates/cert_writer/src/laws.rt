@@ -1,6 +1,7 @@
 //! What the writer rests on.
 
 ghost use Rattle.std.specs.Prelude.{◌≡◌, ◌≤◌};
+ghost use Rattle.cps_base.specs.Limits.{greatest_k};
 ghost use Rattle.cps_problem.specs.WellFormed.{IsWellFormed};
 ghost use Rattle.cert_writer.specs.Written.{StageLaws};
 
@@ -22,7 +23,7 @@ pub(crate) fn stage_laws(problem: &Problem)
 // The most places by which a flight may leave its first-come place.
 pub(crate) fn most_shift(problem: &Problem) -> u8
     ensures k { result ≡ problem.now.k }
-    ensures near { result ≤ 3 }
+    ensures near { result ≤ greatest_k }
     ensures well_formed { IsWellFormed problem.now }
 {
     problem.head().k

@@ -1,7 +1,7 @@
 //! Slots: where the pairs of a node of a stage are put together, and in which order the nodes of a stage stand.
 
 ghost use Rattle.std.specs.Prelude.{◌≡◌, ℕ, ◌+◌, ◌-◌, ◌*◌, ◌/◌, ◌^◌, ◌<◌, ◌≤◌, ◌⊎◌, ◌↔◌};
-ghost use Rattle.cps_base.specs.Limits.{most_waiting};
+ghost use Rattle.cps_base.specs.Limits.{greatest_k, most_waiting};
 ghost use Rattle.precedence.specs.Pairs.{HasBit};
 ghost use Rattle.cert_check.specs.PlacedBits.{digits_of};
 ghost use Rattle.certificate.specs.Patterns.{bits, number_of};
@@ -12,7 +12,7 @@ use cps_network::Node;
 
 // The ranks that are placed, those below 1 among them, as bits: bit y is that of rank y - k.
 fn marks_of(k: u8, placed: u64) -> u128
-    requires { k ≤ 3 }
+    requires { k ≤ greatest_k }
     ensures { (y : ℕ) → HasBit result y ↔ ((y ≤ k) ⊎ ((k < y) × HasBit placed (y - k))) }
 {
     ((placed as u128) << k) | ((1 << (k + 1)) - 1)
@@ -20,7 +20,7 @@ fn marks_of(k: u8, placed: u64) -> u128
 
 // The slot of a node of a stage.
 pub(crate) fn slot_of(k: u8, stage: u8, node: Node) -> usize
-    requires near { k ≤ 3 }
+    requires near { k ≤ greatest_k }
     requires stage { stage ≤ most_waiting }
     requires last { (stage ≤ node.last + k) × (node.last ≤ stage + k) }
     ensures { HasSlot k (stage, digits_of k stage node.placed, node.last) result }
@@ -32,7 +32,7 @@ pub(crate) fn slot_of(k: u8, stage: u8, node: Node) -> usize
 
 // The digits, digit 1 the lowest, that are this number with digit 1 as the highest.
 pub(crate) fn turned(k: u8, number: u8) -> u8
-    requires near { k ≤ 3 }
+    requires near { k ≤ greatest_k }
     requires below { number < 2 ^ (2 * k) }
     ensures digits { number_of (bits (2 * k) result) ≡ number }
     ensures below { result < 2 ^ (2 * k) }

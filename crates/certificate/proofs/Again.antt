@@ -6,6 +6,7 @@ use Rattle.std.specs.Prelude.{◌==◌, codes, decimal}
 use Rattle.std.specs.List.{list_all}
 use Rattle.std.proofs.lemmas.Bool.{leb-true, and_parts}
 use Rattle.std.proofs.lemmas.List.{length-map, append-nil}
+use Rattle.cps_base.specs.Limits.{greatest_word}
 use Rattle.cps_base.specs.Text.{is_callsign}
 use Rattle.landing_rules.specs.Rules.{last_second}
 use Rattle.texts.specs.Parts.{parts}
@@ -22,18 +23,18 @@ use Rattle.certificate.specs.Spelling.{claim_text}
 
 -- ---- pairs
 
-pub pair_reads : (p : Pair) → p.0 ≤ last_second → p.1 ≤ 4294967295 → pair_in (pair_text p) ≡ Some p
+pub pair_reads : (p : Pair) → p.0 ≤ last_second → p.1 ≤ greatest_word → pair_in (pair_text p) ≡ Some p
 unfolding pair_in
 pair_reads p a b = search (rules, cut, decimal_lacks, uncut, decimal_reads)
 
 -- ---- a line of fields
 
-pub pair_lacks : (p : Pair) → p.0 ≤ last_second → p.1 ≤ 4294967295 → Lacks 32 (pair_text p)
+pub pair_lacks : (p : Pair) → p.0 ≤ last_second → p.1 ≤ greatest_word → Lacks 32 (pair_text p)
 pair_lacks p a b = grind (arith, common_steps, decimal_lacks)
 
 abbrev pub ArePairs : List Pair → Type 0
 ArePairs [] = Unit {0}
-ArePairs (p ∷ ps) = (p.0 ≤ last_second) × (p.1 ≤ 4294967295) × ArePairs ps
+ArePairs (p ∷ ps) = (p.0 ≤ last_second) × (p.1 ≤ greatest_word) × ArePairs ps
 
 pub fields_of : (a : List ℕ) (ps : List Pair) → Lacks 32 a → ArePairs ps
     → parts 32 (a ++ pairs_text ps) ≡ a ∷ map pair_text ps
@@ -82,8 +83,8 @@ pub in_ranges : (ps : List Pair) → list_all is_pair ps ≡ true → ArePairs p
 in_ranges [] e = tt
 in_ranges (p ∷ ps) e =
     let h = and_parts (is_pair p) (list_all is_pair ps) e in
-    let r = and_parts (leb p.0 last_second) (leb p.1 4294967295) h.0 in
-    (leb-true p.0 last_second r.0, leb-true p.1 4294967295 r.1, in_ranges ps h.1)
+    let r = and_parts (leb p.0 last_second) (leb p.1 greatest_word) h.0 in
+    (leb-true p.0 last_second r.0, leb-true p.1 greatest_word r.1, in_ranges ps h.1)
 
 state_fields : (s : State) → IsState s → parts 32 (state_text s) ≡ codes "state" ∷ decimal s.stage
     ∷ pattern_text s.pattern ∷ decimal s.last ∷ map pair_text s.pairs

@@ -12,7 +12,7 @@ use Rattle.std.proofs.lemmas.Bool.{ltb-true, and_parts}
 use Rattle.std.proofs.lemmas.Option.{cond_some}
 use Rattle.std.proofs.lemmas.Grind.{common_steps}
 use Rattle.std.proofs.lemmas.List.Splits.{join_with_byte-slice_split}
-use Rattle.cps_base.specs.Limits.{greatest_value}
+use Rattle.cps_base.specs.Limits.{greatest_value, greatest_word}
 use Rattle.cps_base.specs.Number.{number_within, is_number}
 use Rattle.cps_base.specs.Text.{is_callsign}
 use Rattle.landing_rules.specs.Rules.{last_second}
@@ -62,9 +62,9 @@ pair_printed text p e = go (parts 58 text) refl e
     go : (fields : List (List ℕ)) → parts 58 text ≡ fields → pair_by fields ≡ Some p → pair_text p ≡ text
     go (a ∷ b ∷ []) f e =
         let t = then_some (number_in a 0 last_second) _ p e in
-        let c = map_some (number_in b 0 4294967295) _ p t.2 in
+        let c = map_some (number_in b 0 greatest_word) _ p t.2 in
         let second = number_printed a 0 last_second t.0 (omega arith) t.1 in
-        let cost = number_printed b 0 4294967295 c.0 (omega arith) c.1 in cc (joined 58 text (a ∷ b ∷ []) f)
+        let cost = number_printed b 0 greatest_word c.0 (omega arith) c.1 in cc (joined 58 text (a ∷ b ∷ []) f)
     go fields f e = absurd cc
 
 -- the parts behind a first one

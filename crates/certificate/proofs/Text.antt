@@ -5,6 +5,7 @@ use Rattle.std.proofs.lemmas.Grind.{common_steps}
 use Rattle.std.specs.Prelude.{◌==◌, codes, decimal}
 use Rattle.std.specs.List.{list_all}
 use Rattle.std.proofs.lemmas.List.Elements.{All-append, All-cons}
+use Rattle.cps_base.specs.Limits.{greatest_word}
 use Rattle.cps_base.specs.Text.{is_callsign}
 use Rattle.landing_rules.specs.Rules.{last_second}
 use Rattle.texts.specs.Parts.{parts}
@@ -29,7 +30,7 @@ number n h = search (rules, decimal_lacks)
 join : (m : ℕ) (a b : List ℕ) → test m → Lacks 10 a → Lacks 10 b → Lacks 10 (a ++ m ∷ b)
 join m a b e h k = All-append test a (m ∷ b) h (All-cons test m b e k)
 
-pair : (p : Pair) → p.0 ≤ last_second → p.1 ≤ 4294967295 → Lacks 10 (pair_text p)
+pair : (p : Pair) → p.0 ≤ last_second → p.1 ≤ greatest_word → Lacks 10 (pair_text p)
 pair p a b = search (rules, join, number)
 
 pairs : (ps : List Pair) → ArePairs ps → Lacks 10 (pairs_text ps)

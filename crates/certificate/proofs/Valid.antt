@@ -4,6 +4,7 @@ use Rattle.std.proofs.Common.{length, Option, Some, None, Result, Ok, Err, refl,
 use Rattle.std.specs.Prelude.{option_map, option_and_then}
 use Rattle.std.specs.List.{list_all}
 use Rattle.std.proofs.lemmas.Grind.{common_steps}
+use Rattle.cps_base.specs.Limits.{greatest_word}
 use Rattle.cps_base.specs.Answers.{◌>>=◌}
 use Rattle.cps_base.specs.Number.{number_within}
 use Rattle.cps_base.specs.Text.{is_callsign}
@@ -107,7 +108,7 @@ line_keeps n b line b' e h = search
     (rules, landing_range, landings_more, states_more, state_range, ascending_more, length-append)
 
 lines_keep : (n : ℕ) (c : Claim) (b : Body) (line : List ℕ) (rest : List (List ℕ)) (x : Cert)
-    → IsClaim c → IsBody b → length b.1 + length rest < 4294967295 → lines_in n c b line rest ≡ Ok x → IsCertificate x
+    → IsClaim c → IsBody b → length b.1 + length rest < greatest_word → lines_in n c b line rest ≡ Ok x → IsCertificate x
 unfolding lines_in
 lines_keep n c b line [] x is h few e = search rules
 lines_keep n c b line (next ∷ rest) x is h few e =
@@ -116,7 +117,7 @@ lines_keep n c b line (next ∷ rest) x is h few e =
     lines_keep (n + 1) c more.0 next rest x is k.0 (omega (arith, k.1)) more.2
 
 -- what is read is a certificate
-pub body_is : (c : Claim) (rest : List (List ℕ)) (x : Cert) → IsClaim c → length rest ≤ 4294967295
+pub body_is : (c : Claim) (rest : List (List ℕ)) (x : Cert) → IsClaim c → length rest ≤ greatest_word
     → body_lines c rest ≡ Ok x → IsCertificate x
 body_is c [] x is few e = absurd cc
 body_is c (line ∷ rest) x is few e =

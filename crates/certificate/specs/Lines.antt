@@ -2,7 +2,7 @@
 use Rattle.std.specs.Prelude.{ℕ, List, [], ◌∷◌, ◌&&◌, ◌||◌, ◌==◌, nat_lt, map, Bool, length, codes, bytes_eq, Option}
 use Rattle.std.specs.Prelude.{Some, None, option_and_then, option_map, if◌then◌else◌}
 use Rattle.std.specs.List.{list_all}
-use Rattle.cps_base.specs.Limits.{greatest_value, most_waiting}
+use Rattle.cps_base.specs.Limits.{greatest_value, greatest_word, most_waiting}
 use Rattle.landing_rules.specs.Rules.{last_second}
 use Rattle.texts.specs.Parts.{callsign_in, number_in, parts}
 use Rattle.certificate.specs.declared.certificate.Claim.{Claim}
@@ -29,7 +29,7 @@ pattern_in text =
 
 abbrev pub pair_by : List (List ℕ) → Option Pair
 pair_by (second ∷ cost ∷ []) =
-    option_and_then (λ t. option_map (λ c. (t, c)) (number_in cost 0 4294967295)) (number_in second 0 last_second)
+    option_and_then (λ t. option_map (λ c. (t, c)) (number_in cost 0 greatest_word)) (number_in second 0 last_second)
 pair_by fields = None
 
 unfoldable pub pair_in : List ℕ → Option Pair

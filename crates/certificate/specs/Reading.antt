@@ -3,7 +3,7 @@ use Rattle.std.specs.Prelude.{◌≡◌, ℕ, ◌+◌, ◌<◌, ◌≤◌, List,
 use Rattle.std.specs.Prelude.{Some, None, Result, Ok, Err, if◌then◌else◌}
 use Rattle.cps_base.specs.Answers.{◌>>=◌, Fails}
 use Rattle.cps_base.specs.Text.{is_callsign}
-use Rattle.cps_base.specs.Limits.{greatest_value}
+use Rattle.cps_base.specs.Limits.{greatest_value, greatest_word}
 use Rattle.landing_rules.specs.Rules.{last_second}
 use Rattle.certificate.specs.declared.certificate.Claim.{Claim}
 use Rattle.certificate.specs.declared.certificate.Claim.TheVariants.{Optimal, Infeasible}
@@ -31,7 +31,7 @@ pub record IsCertificate (c : Cert) : Type 0 where
   pub landings : AreLandings c.landings
   pub states : AreStates c.states
   pub ascending : AreAscending c.states
-  pub few : length c.states < 4294967295
+  pub few : length c.states < greatest_word
 
 -- the landings and the states so far
 abbrev pub Body : Type 0

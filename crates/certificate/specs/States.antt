@@ -5,7 +5,7 @@ use Rattle.std.specs.List.{list_all}
 use Rattle.std.specs.Ordering.{nat_cmp, bool_cmp, ordering_then, is_lt}
 use Rattle.std.specs.declared.cmp.Ordering.{Ordering}
 use Rattle.std.specs.Cmp.Lexicographic.{slice_cmp}
-use Rattle.cps_base.specs.Limits.{most_waiting}
+use Rattle.cps_base.specs.Limits.{greatest_word, most_waiting}
 use Rattle.landing_rules.specs.Rules.{last_second}
 use Rattle.certificate.specs.Patterns.{is_pattern_length}
 
@@ -24,7 +24,7 @@ abbrev pub is_second : ℕ → Bool
 is_second t = nat_le t last_second
 
 abbrev pub is_pair : Pair → Bool
-is_pair p = is_second p.0 && nat_le p.1 4294967295
+is_pair p = is_second p.0 && nat_le p.1 greatest_word
 
 -- the seconds rise and the costs fall
 abbrev pub rises : List Pair → Bool

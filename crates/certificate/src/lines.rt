@@ -10,7 +10,7 @@ ghost use Rattle.certificate.specs.Lines.{is_digit, are_pattern_digits, digit_of
 use crate::certificate::Claim;
 use crate::pattern::Pattern;
 use crate::state::CertState;
-use cps_base::{Callsign, GREATEST_VALUE, MOST_WAITING};
+use cps_base::{Callsign, GREATEST_VALUE, GREATEST_WORD, MOST_WAITING};
 use landing_windows::LAST_SECOND;
 use std::alloc::{AllocError, Global};
 use texts::{first_part, number_in};
@@ -69,7 +69,7 @@ fn pair_of(text: &[u8]) -> Option<(u32, u32)>
         return None;
     }
     let second = number_in(second, 0, u64::from(LAST_SECOND))?;
-    let cost = number_in(cost, 0, 4_294_967_295)?;
+    let cost = number_in(cost, 0, GREATEST_WORD)?;
     Some((second as u32, cost as u32))
 }
 

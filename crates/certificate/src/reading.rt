@@ -1,4 +1,5 @@
 ghost use Rattle.std.specs.Prelude.{◌≡◌, ◌<◌, length, IfOk};
+ghost use Rattle.cps_base.specs.Limits.{greatest_word};
 ghost use Rattle.cps_base.specs.Answers.{Gives};
 ghost use Rattle.certificate.specs.Reading.{memory_fault, Takes, IsClaim, body_lines, certificate_of, line_in};
 ghost use Rattle.texts.specs.Parts.{parts};
@@ -75,7 +76,7 @@ fn read_body(alloc: Global, claim: Claim, text: &[u8]) -> Result<Certificate, Ce
 // The certificate of a text: its first two lines, and then the others.
 #[tactic(auto, unfolding(crate::specs::Reading::certificate_of, crate::specs::Reading::certificate_by))]
 fn certificate_in(alloc: Global, bytes: &[u8]) -> Result<Certificate, CertFault>
-    requires { length bytes.now < 4294967295 }
+    requires { length bytes.now < greatest_word }
     ensures { Gives memory_fault result (certificate_of bytes.now) }
 {
     let (head, rest) = first_part(bytes, b'\n');
@@ -100,7 +101,7 @@ fn certificate_in(alloc: Global, bytes: &[u8]) -> Result<Certificate, CertFault>
 /// smaller. What is read prints back as the text. The text has fewer than 4,294,967,295 bytes.
 #[tactic(auto, using(crate::proofs::WholeAsRead::prints_if_read))]
 pub fn read_certificate(alloc: Global, bytes: &[u8]) -> Result<Certificate, CertFault>
-    requires { length bytes.now < 4294967295 }
+    requires { length bytes.now < greatest_word }
     ensures value { Gives memory_fault result (certificate_of bytes.now) }
     ensures prints { IfOk result (λ certificate. certificate_text certificate ≡ bytes.now) }
 {

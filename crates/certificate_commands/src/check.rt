@@ -1,4 +1,5 @@
 ghost use Rattle.std.specs.Prelude.{◌<◌, length, MatchResult};
+ghost use Rattle.cps_base.specs.Limits.{greatest_word};
 ghost use Rattle.arrivals.specs.Aerodromes.{IsInRange};
 ghost use Rattle.arrivals.specs.Flights.{AreArrivals};
 ghost use Rattle.certificate_commands.specs.Check.{AdmitsCheck, FollowsCheck, IsJudged, Judges, StopsCheck};
@@ -46,7 +47,7 @@ fn judge_files(
     flights: &[u8],
     certificate: &[u8],
 ) -> Result<Verdict, Ending>
-    requires { length certificate.now < 4294967295 }
+    requires { length certificate.now < greatest_word }
     ensures { MatchResult result
         (Judges aerodrome.now flights.now certificate.now)
         (StopsCheck aerodrome.now flights.now certificate.now) }
@@ -64,7 +65,7 @@ fn report_files(
     flights: &[u8],
     certificate: &[u8],
 ) -> Result<Report, Ending>
-    requires { length certificate.now < 4294967295 }
+    requires { length certificate.now < greatest_word }
     ensures { MatchResult result
         (λ r. AdmitsCheck aerodrome.now flights.now certificate.now r.text.items r.answer)
         (StopsCheck aerodrome.now flights.now certificate.now) }
@@ -84,7 +85,7 @@ pub fn run_check<S: Sink>(
     certificate: &[u8],
     out: &mut S,
 ) -> Ending
-    requires { length certificate.now < 4294967295 }
+    requires { length certificate.now < greatest_word }
     ensures { FollowsCheck aerodrome.now flights.now certificate.now
         (S.state out.old) (S.state out.new) result }
 {

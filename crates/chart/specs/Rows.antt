@@ -17,6 +17,10 @@ pub record Row : Type 0 where
   pub active : Option Active
   pub landing : Option ShownLanding
 
+-- a row for each flight, and one for each landing
+abbrev pub most_rows : ℕ
+most_rows = 1000
+
 -- ---- landing order, from the seconds alone; at one second by the callsign
 
 abbrev pub is_above : ShownLanding → ShownLanding → Bool

@@ -1,5 +1,7 @@
 // The words of the rows.
 ghost use Rattle.std.specs.Prelude.{◌≡◌, ◌≤◌, ◌++◌, OnOk, length, map, option_map};
+ghost use Rattle.cps_base.specs.Limits.{most_flights};
+ghost use Rattle.chart.specs.Rows.{most_rows};
 ghost use Rattle.plan_file.specs.Shown.{shown_of};
 ghost use Rattle.audit.specs.Findings.{finding_of};
 ghost use Rattle.chart.specs.Elements.{category_in, label_of, labels_drawn, place_at, place_shown, rank_shown};
@@ -22,7 +24,7 @@ fn category_in(active: &Option<Active>) -> Option<Category>
 
 // The rank of a waiting flight.
 fn rank_shown(active: &[Active], of: &Option<Active>) -> Option<u32>
-    requires { length active.now ≤ 500 }
+    requires { length active.now ≤ most_flights }
     ensures { result ≡ rank_shown active.now of.now }
 {
     let Some(of) = of else {
@@ -36,7 +38,7 @@ fn rank_shown(active: &[Active], of: &Option<Active>) -> Option<u32>
 
 // The place of a waiting flight that lands.
 fn place_at(rows: &[Row], active: &Active, landing: &Option<Landing>) -> Option<u32>
-    requires { length rows.now ≤ 1000 }
+    requires { length rows.now ≤ most_rows }
     ensures { result ≡ place_at rows.now active.now (option_map shown_of landing.now) }
 {
     let Some(landing) = landing else {
@@ -49,7 +51,7 @@ fn place_at(rows: &[Row], active: &Active, landing: &Option<Landing>) -> Option<
 }
 
 fn place_shown(rows: &[Row], row: &Row) -> Option<u32>
-    requires { length rows.now ≤ 1000 }
+    requires { length rows.now ≤ most_rows }
     ensures { result ≡ place_shown rows.now row.now.active row.now.landing }
 {
     row.active
@@ -58,8 +60,8 @@ fn place_shown(rows: &[Row], row: &Row) -> Option<u32>
 }
 
 fn label_of(active: &[Active], rows: &[Row], flagged: bool, row: &Row) -> Label
-    requires active { length active.now ≤ 500 }
-    requires rows { length rows.now ≤ 1000 }
+    requires active { length active.now ≤ most_flights }
+    requires rows { length rows.now ≤ most_rows }
     ensures { result ≡ label_of active.now rows.now flagged row.now }
 {
     Label {
@@ -79,8 +81,8 @@ pub(crate) fn add_labels(
     found: &[Finding],
     rows: &[Row],
 ) -> Result<(), AllocError>
-    requires active { length active.now ≤ 500 }
-    requires rows { length rows.now ≤ 1000 }
+    requires active { length active.now ≤ most_flights }
+    requires rows { length rows.now ≤ most_rows }
     ensures { OnOk result (all.new.items ≡ all.old.items
         ++ labels_drawn active.now rows.now lines.now
         (map finding_of found.now) 0 rows.now) }

@@ -1,5 +1,6 @@
 // The whole picture.
 ghost use Rattle.std.specs.Prelude.{◌≡◌, ◌≤◌, ◌-◌, ◌++◌, IfOk, OnOk, length, map};
+ghost use Rattle.cps_base.specs.Limits.{most_flights};
 ghost use Rattle.landing_rules.specs.Flights.{horizon};
 ghost use Rattle.landing_rules.specs.Sound.{IsSound};
 ghost use Rattle.audit.specs.Findings.{finding_of};
@@ -8,7 +9,7 @@ ghost use Rattle.plan_file.specs.declared.plan.PlanText.TheVariants as plans;
 ghost use Rattle.chart.specs.Places.{x_of};
 ghost use Rattle.chart.specs.Held.{found_in};
 ghost use Rattle.chart.specs.Frames.{first_of, span_of};
-ghost use Rattle.chart.specs.Rows.{rows_of};
+ghost use Rattle.chart.specs.Rows.{most_rows, rows_of};
 ghost use Rattle.chart.specs.Pictures.{elements_of, field_drawn, found_of, in_frame, lines_below, pictured};
 
 use crate::field::{add_closures, add_horizon, add_ticks, say_horizon};
@@ -41,7 +42,7 @@ fn add_field(
     rows: &[Row],
     frame: Frame,
 ) -> Result<(), AllocError>
-    requires { length rows.now ≤ 1000 }
+    requires { length rows.now ≤ most_rows }
     ensures { OnOk result (all.new.items ≡ all.old.items
         ++ field_drawn situation.now lines.now (map finding_of found.now) rows.now frame) }
 {
@@ -70,7 +71,7 @@ fn in_frame(
     rows: &[Row],
 ) -> Result<Vec<Element>, AllocError>
     requires sound { IsSound situation.now }
-    requires rows { length rows.now ≤ 1000 }
+    requires rows { length rows.now ≤ most_rows }
     ensures { IfOk result (λ all. all.items ≡ in_frame situation.now title lines.now
         (map finding_of found.now) rows.now) }
 {
@@ -91,9 +92,9 @@ fn in_frame(
 // There are few rows, since there are few lines and few flights.
 fn are_few(active: &[Active], lines: &BlockLines, rows: &[Row])
     requires rows { rows.now ≡ rows_of active.now lines.now }
-    requires active { length active.now ≤ 500 }
-    requires lines { length lines.now ≤ 500 }
-    ensures { length rows.now ≤ 1000 }
+    requires active { length active.now ≤ most_flights }
+    requires lines { length lines.now ≤ most_flights }
+    ensures { length rows.now ≤ most_rows }
 {}
 
 // The elements of these lines.
@@ -105,7 +106,7 @@ fn pictured(
     found: &[Finding],
 ) -> Result<Vec<Element>, AllocError>
     requires sound { IsSound situation.now }
-    requires few { length lines.now ≤ 500 }
+    requires few { length lines.now ≤ most_flights }
     ensures { IfOk result (λ all. all.items ≡ pictured situation.now title lines.now
         (map finding_of found.now)) }
 {
@@ -118,7 +119,7 @@ fn pictured(
 
 fn picture_block(alloc: Global, situation: &Situation, block: &Block) -> Result<Picture, AllocError>
     requires sound { IsSound situation.now }
-    requires few { length block.now.lines ≤ 500 }
+    requires few { length block.now.lines ≤ most_flights }
     ensures elements { IfOk result (λ picture. picture.elements.items
         ≡ elements_of situation.now (plans.Block block.now)) }
     ensures found { IfOk result (λ picture. found_in picture

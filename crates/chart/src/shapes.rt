@@ -1,5 +1,6 @@
 // What the rows draw.
 ghost use Rattle.std.specs.Prelude.{◌≡◌, ◌≤◌, ◌++◌, OnOk, length, map};
+ghost use Rattle.chart.specs.Rows.{most_rows};
 ghost use Rattle.wake_table.specs.Table.{separation};
 ghost use Rattle.plan_file.specs.Shown.{shown_of};
 ghost use Rattle.audit.specs.Findings.{finding_of};
@@ -237,7 +238,7 @@ pub(crate) fn add_rows(
     rows: &[Row],
 ) -> Result<(), AllocError>
     requires some { 1 ≤ span }
-    requires few { length rows.now ≤ 1000 }
+    requires few { length rows.now ≤ most_rows }
     ensures { OnOk result (all.new.items ≡ all.old.items
         ++ rows_drawn table.now span lines.now (map finding_of found.now) 0 rows.now) }
 {

@@ -1,11 +1,12 @@
 // Ranks, places, and what findings are about.
 ghost use Rattle.std.specs.Prelude.{◌≡◌, ◌≤◌, ◌&&◌, length, map};
 ghost use Rattle.std.specs.Ordering.{is_lt};
+ghost use Rattle.cps_base.specs.Limits.{most_flights};
 ghost use Rattle.landing_rules.specs.Flights.{is_waiting};
 ghost use Rattle.landing_rules.specs.Rules.{arrival_cmp};
 ghost use Rattle.landing_rules.specs.Audit as rules;
 ghost use Rattle.audit.specs.Findings.{finding_of};
-ghost use Rattle.chart.specs.Rows.{is_flagged, lands_before, names, place_in, rank_in, waits};
+ghost use Rattle.chart.specs.Rows.{is_flagged, lands_before, most_rows, names, place_in, rank_in, waits};
 
 use crate::row::Row;
 use audit::Finding;
@@ -25,7 +26,7 @@ fn waits_ahead(active: &Active, of: &Active) -> bool
 
 // 1 plus the number of waiting flights that come before this one.
 pub(crate) fn rank_in(active: &[Active], of: &Active) -> u32
-    requires { length active.now ≤ 500 }
+    requires { length active.now ≤ most_flights }
     ensures { result ≡ rank_in active.now of.now.flight }
 {
     1 + active.iter().filter(|a| waits_ahead(a, of)).count() as u32
@@ -48,7 +49,7 @@ fn lands_ahead(row: &Row, second: u32) -> bool
 
 // 1 plus the number of waiting flights that land before the second.
 pub(crate) fn place_in(rows: &[Row], second: u32) -> u32
-    requires { length rows.now ≤ 1000 }
+    requires { length rows.now ≤ most_rows }
     ensures { result ≡ place_in rows.now second }
 {
     1 + rows.iter().filter(|r| lands_ahead(r, second)).count() as u32

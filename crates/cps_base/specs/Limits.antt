@@ -32,3 +32,30 @@ greatest_weight = 100
 -- value of a plan: 500 flights of weight 100, each 172,799 seconds late
 abbrev pub greatest_value : ℕ
 greatest_value = 8639950000
+
+-- places that a flight may be shifted by: where the latest landing is least, and where delay is
+abbrev pub greatest_k : ℕ
+greatest_k = 3
+
+abbrev pub greatest_delay_k : ℕ
+greatest_delay_k = 2
+
+-- windows of a flight
+abbrev pub most_windows : ℕ
+most_windows = 4
+
+-- flights that a flight lists as its predecessors
+abbrev pub most_predecessors : ℕ
+most_predecessors = 4
+
+-- horizon: the last second of the two days and the longest freeze
+abbrev pub latest_horizon : ℕ
+latest_horizon = 179999
+
+-- what one landing costs: a weight of 100, 172,799 seconds late
+abbrev pub dearest_landing : ℕ
+dearest_landing = 17279900
+
+-- number that 32 bits hold
+abbrev pub greatest_word : ℕ
+greatest_word = 4294967295

@@ -23,3 +23,18 @@ pub const GREATEST_WEIGHT: u32 = 100;
 
 /// The greatest value of a plan: 500 flights of weight 100, each 172,799 seconds late.
 pub const GREATEST_VALUE: u64 = 8_639_950_000;
+
+/// The most places that a flight may be shifted by.
+pub const GREATEST_K: u8 = 3;
+
+/// The most places that a flight may be shifted by where delay is least.
+pub const GREATEST_DELAY_K: u8 = 2;
+
+/// How many windows a flight may have.
+pub const MOST_WINDOWS: usize = 4;
+
+/// How many flights a flight may list as its predecessors.
+pub const MOST_PREDECESSORS: usize = 4;
+
+/// The greatest number that 32 bits hold.
+pub const GREATEST_WORD: u64 = 4_294_967_295;

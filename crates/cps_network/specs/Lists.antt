@@ -15,3 +15,7 @@ IsAscending nodes = (i j : ℕ) → i < j → j < length nodes → window_cmp (n
 -- each is a window of this width
 abbrev pub AreWindows : ℕ → List (List ℤ) → Type 0
 AreWindows width nodes = (i : ℕ) → i < length nodes → IsWindow width (node_at nodes i)
+
+-- windows of a stage: of seven places and seven offsets, so 7 to the power of 7
+abbrev pub most_in_a_stage : ℕ
+most_in_a_stage = 823543

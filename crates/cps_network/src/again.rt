@@ -1,7 +1,7 @@
 //! The next stage, taken again from another stage that has the same windows.
 
 ghost use Rattle.std.specs.Prelude.{◌≡◌, ◌+◌, ◌-◌, ◌*◌, ◌<◌, ◌≤◌, ◌↔◌, ℕ, length, IsTrue, IfOk, IfSome};
-ghost use Rattle.cps_base.specs.Limits.{most_waiting};
+ghost use Rattle.cps_base.specs.Limits.{greatest_k, most_waiting};
 ghost use Rattle.precedence.specs.Pairs.{HasBit};
 ghost use Rattle.cps_network.specs.Again.{AreAsFar, AreInReach, HaveSameNext, IsReady, IsStageAfter};
 ghost use Rattle.cps_network.specs.Again.{WaitAlike, WaitAlikeFor, WaitsFor, WaitsForNoMore, WaitsNear};
@@ -15,7 +15,7 @@ use std::alloc::AllocError;
 // The ranks that can have landed by a stage, as bits: those at most stage + k.
 fn landed_set(stage: u8, k: u8) -> u64
     requires stage { stage < most_waiting }
-    requires near { k ≤ 3 }
+    requires near { k ≤ greatest_k }
     ensures { (rank : ℕ) → HasBit result rank ↔ (rank ≤ stage + k) }
 {
     (1 << (stage + k + 1)) - 1

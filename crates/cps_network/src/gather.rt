@@ -1,6 +1,7 @@
 //! The windows of the next stage, gathered from groups.
 
 ghost use Rattle.std.specs.Prelude.{◌≡◌, ℕ, pos, ◌+◌, ◌-◌, ◌*◌, ◌/◌, ◌<◌, ◌≤◌, ◌⊎◌, ◌↔◌, length, All, OnOk, Contains, [], ◌∷◌, ◌++◌};
+ghost use Rattle.cps_network.specs.Lists.{most_in_a_stage};
 ghost use Rattle.precedence.specs.Pairs.{HasBit};
 ghost use Rattle.cps_nodes.specs.Windows.{IsWidth};
 ghost use Rattle.cps_network.specs.Extended.{Follows, FollowsBy, HasGrownBy, IsExtendable, group_at, offset_of};
@@ -21,7 +22,7 @@ pub(crate) struct Gathered<const W: usize> {
 impl<const W: usize> Gathered<W> {
     // Adds a window to which the group at a place leads.
     fn push(&mut self, window: Window<W>, place: usize) -> Result<(), AllocError>
-        requires { place ≤ 823543 }
+        requires { place ≤ most_in_a_stage }
         ensures { OnOk result (self.new.windows.items ≡ self.old.windows.items ++ window.entry ∷ []) }
     {
         self.windows.push(window)?;
@@ -53,7 +54,7 @@ fn add_next<const W: usize>(
     requires width { IsWidth W }
     requires bit { j < W }
     requires group { IsExtendable W before.now group }
-    requires few { place ≤ 823543 }
+    requires few { place ≤ most_in_a_stage }
     ensures { OnOk result ((x : _) → Contains gathered.new.windows.items x
         ↔ (Contains gathered.old.windows.items x ⊎ FollowsBy W before.now group j x)) }
 {
@@ -76,7 +77,7 @@ fn add_by<const W: usize>(
     requires width { IsWidth W }
     requires bit { j < W }
     requires groups { All (IsExtendable W before.now) groups.now }
-    requires few { length groups.now ≤ 823543 }
+    requires few { length groups.now ≤ most_in_a_stage }
     requires block { (block.0 ≤ block.1) × (block.1 ≤ length groups.now) }
     ensures { OnOk result (HasGrownBy (λ i x. FollowsBy W before.now (group_at groups.now i) j x)
         block.0 block.1 gathered.old.windows.items gathered.new.windows.items) }
@@ -96,7 +97,7 @@ fn add_block<const W: usize>(
 ) -> Result<(), AllocError>
     requires width { IsWidth W }
     requires groups { All (IsExtendable W before.now) groups.now }
-    requires few { length groups.now ≤ 823543 }
+    requires few { length groups.now ≤ most_in_a_stage }
     requires block { (block.0 ≤ block.1) × (block.1 ≤ length groups.now) }
     ensures { OnOk result (HasGrownBy (Follows W before.now groups.now) block.0 block.1
         gathered.old.windows.items gathered.new.windows.items) }
@@ -110,7 +111,7 @@ fn add_block<const W: usize>(
 // The first place behind this one whose group leads to windows further on.
 fn end_of_block(groups: &[Group], from: usize) -> usize
     requires within { from < length groups.now }
-    requires few { length groups.now ≤ 823543 }
+    requires few { length groups.now ≤ most_in_a_stage }
     ensures { (from < result) × (result ≤ length groups.now) }
 {
     let order = groups[from].order;
@@ -131,7 +132,7 @@ pub(crate) fn gather<const W: usize>(
 ) -> Result<(), AllocError>
     requires width { IsWidth W }
     requires groups { All (IsExtendable W before.now) groups.now }
-    requires few { length groups.now ≤ 823543 }
+    requires few { length groups.now ≤ most_in_a_stage }
     ensures { OnOk result (HasGrownBy (Follows W before.now groups.now) 0 (length groups.now)
         gathered.old.windows.items gathered.new.windows.items) }
 {

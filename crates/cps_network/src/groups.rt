@@ -5,7 +5,7 @@ ghost use Rattle.precedence.specs.Pairs.{HasBit};
 ghost use Rattle.cps_nodes.specs.Windows.{IsPlaced};
 ghost use Rattle.cps_network.specs.Extended.{AreGroupsOf, HasFree, HasOpen, HasPermitted, IsGroupOf, group_at};
 ghost use Rattle.cps_network.specs.Links.{range_at};
-ghost use Rattle.cps_network.specs.Lists.{AreWindows, IsAscending, node_at};
+ghost use Rattle.cps_network.specs.Lists.{AreWindows, IsAscending, most_in_a_stage, node_at};
 ghost use Rattle.cps_network.specs.Permits.{IsPermitted};
 
 use crate::ahead::{Ahead, ahead_of};
@@ -139,7 +139,7 @@ fn group_from<const W: usize>(
     requires due { (rank : ℕ) → HasBit due rank ↔ (rank + W / 2 ≤ stage) }
     requires open { HasOpen problem.now stage ahead.open }
     requires free { HasFree problem.now stage ahead.free }
-    requires few { length before.now ≤ 823543 }
+    requires few { length before.now ≤ most_in_a_stage }
     requires ascending { IsAscending before.now }
     requires within { from < length before.now }
     requires first { 0 < from
@@ -166,10 +166,10 @@ fn groups_of<const W: usize>(
 ) -> Result<Vec<Group>, AllocError>
     requires width { W ≡ 2 * problem.now.k + 1 }
     requires stage { stage < length problem.now.flights }
-    requires few { length before.now ≤ 823543 }
+    requires few { length before.now ≤ most_in_a_stage }
     requires ascending { IsAscending before.now }
     ensures groups { IfOk result (λ groups. AreGroupsOf problem.now stage before.now groups.items) }
-    ensures few { IfOk result (λ groups. length groups.items ≤ 823543) }
+    ensures few { IfOk result (λ groups. length groups.items ≤ most_in_a_stage) }
 {
     let due = due_set(stage, most_shift(problem));
     let ahead = ahead_of(problem, stage);
@@ -193,10 +193,10 @@ pub(crate) fn groups_in_order<const W: usize>(
 ) -> Result<Vec<Group>, AllocError>
     requires width { W ≡ 2 * problem.now.k + 1 }
     requires stage { stage < length problem.now.flights }
-    requires few { length before.now ≤ 823543 }
+    requires few { length before.now ≤ most_in_a_stage }
     requires ascending { IsAscending before.now }
     ensures groups { IfOk result (λ groups. AreGroupsOf problem.now stage before.now groups.items) }
-    ensures few { IfOk result (λ groups. length groups.items ≤ 823543) }
+    ensures few { IfOk result (λ groups. length groups.items ≤ most_in_a_stage) }
 {
     let mut groups = groups_of(alloc, problem, stage, before)?;
     groups.sort_by_key(|group: &Group| group.order)?;

@@ -5,7 +5,7 @@ ghost use Rattle.cps_base.specs.Limits.{most_waiting};
 ghost use Rattle.cps_nodes.specs.Windows.{IsWidth};
 ghost use Rattle.cps_network.specs.Extended.{AreGroupsOf, AreRanges};
 ghost use Rattle.cps_network.specs.Landable.{HoldsCandidates};
-ghost use Rattle.cps_network.specs.Lists.{IsAscending, AreWindows};
+ghost use Rattle.cps_network.specs.Lists.{AreWindows, IsAscending, most_in_a_stage};
 ghost use Rattle.cps_network.specs.Permits.{IsNextOf};
 
 use crate::gather::{Gathered, gather};
@@ -68,7 +68,7 @@ fn next_windows<const W: usize>(
     requires stage { stage < length problem.now.flights }
     requires valid { AreWindows W before.now }
     requires groups { AreGroupsOf problem.now stage before.now groups.now }
-    requires few { length groups.now ≤ 823543 }
+    requires few { length groups.now ≤ most_in_a_stage }
     ensures ascending { IfOk result (λ g. IsAscending g.windows.items) }
     ensures exact { IfOk result (λ g. IsNextOf problem.now stage before.now g.windows.items) }
     ensures valid { IfOk result (λ g. AreWindows W g.windows.items) }

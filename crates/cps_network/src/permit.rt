@@ -1,7 +1,7 @@
 //! Whether a rank may land next, and the window that then follows.
 
 ghost use Rattle.std.specs.Prelude.{◌≡◌, ℕ, pos, ◌+◌, ◌*◌, ◌/◌, ◌<◌, ◌-◌, ◌≤◌, ◌↔◌, List, ◌∷◌, length, max, min, reverse, IsTrue};
-ghost use Rattle.cps_base.specs.Limits.{most_waiting};
+ghost use Rattle.cps_base.specs.Limits.{greatest_k, most_waiting};
 ghost use Rattle.precedence.specs.Pairs.{HasBit};
 ghost use Rattle.cps_nodes.specs.Windows.{IsPlaced};
 ghost use Rattle.cps_nodes.specs.Ranks.{window_of};
@@ -18,7 +18,7 @@ use cps_problem::Problem;
 // The most places by which a flight may leave its first-come place.
 pub(crate) fn most_shift(problem: &Problem) -> u8
     ensures k { result ≡ problem.now.k }
-    ensures near { result ≤ 3 }
+    ensures near { result ≤ greatest_k }
     ensures few { length problem.now.flights ≤ most_waiting }
 {
     problem.head().k
@@ -40,7 +40,7 @@ pub(crate) fn reach(problem: &Problem, stage: u8) -> (u8, u8)
 // The ranks that are due by a stage, as bits: those at most stage - k.
 pub(crate) fn due_set(stage: u8, k: u8) -> u64
     requires stage { stage ≤ most_waiting }
-    requires near { k ≤ 3 }
+    requires near { k ≤ greatest_k }
     ensures { (rank : ℕ) → HasBit result rank ↔ (rank + k ≤ stage) }
 {
     if stage < k {

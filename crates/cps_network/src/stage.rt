@@ -7,7 +7,7 @@ ghost use Rattle.std.specs.List.{AllZip};
 ghost use Rattle.cps_nodes.specs.Windows.{IsWidth, IsWindow};
 ghost use Rattle.cps_nodes.specs.Leads.{Extends};
 ghost use Rattle.cps_network.specs.Compacted.{kept_where};
-ghost use Rattle.cps_network.specs.Lists.{IsAscending, AreWindows, node_at};
+ghost use Rattle.cps_network.specs.Lists.{AreWindows, IsAscending, most_in_a_stage, node_at};
 
 use crate::compact::{compact_all, keeps_all};
 use crate::links::Links;
@@ -130,7 +130,7 @@ impl<const W: usize> Stage<W> {
     pub fn len(&self) -> usize
         ensures value { result ≡ length self.now.1 }
         ensures few { length self.now.1 ≤ W ^ W }
-        ensures below { length self.now.1 ≤ 823543 }
+        ensures below { length self.now.1 ≤ most_in_a_stage }
     {
         self.windows.len()
     }

@@ -1,5 +1,6 @@
 -- What a planner answers.
 use Rattle.std.specs.Prelude.{ℕ, ◌≤◌, Option, MatchOption, ⊤}
+use Rattle.cps_base.specs.Limits.{greatest_delay_k}
 use Rattle.landing_rules.specs.declared.objective.Objective.{Objective}
 use Rattle.landing_rules.specs.declared.objective.Objective.TheVariants.{Makespan, Delay}
 use Rattle.landing_rules.specs.Flights.{Schedule}
@@ -8,7 +9,7 @@ use Rattle.landing_rules.specs.Problem.{Problem, IsFeasibleList, IsBestList, IsT
 -- a planner is asked for the makespan with any k, and for the delay with at most two places of shift
 abbrev pub IsWithinShift : Objective → ℕ → Type 0
 IsWithinShift Makespan k = ⊤
-IsWithinShift Delay k = k ≤ 2
+IsWithinShift Delay k = k ≤ greatest_delay_k
 
 abbrev pub IsPlannable : Problem → Type 0
 IsPlannable p = IsWithinShift p.objective p.k

@@ -1,4 +1,5 @@
 ghost use Rattle.std.specs.Prelude.{◌≡◌, ◌≤◌, ◌*◌, length, None, IfSome, MatchOption};
+ghost use Rattle.cps_base.specs.Limits.{greatest_weight};
 ghost use Rattle.wake_table.specs.Table.{greatest_separation};
 ghost use Rattle.landing_rules.specs.Problem.{last_frozen};
 ghost use Rattle.landing_rules.specs.Rules.{last_second};
@@ -109,7 +110,7 @@ impl Problem {
         requires rank { (1 ≤ rank) × (rank ≤ length self.now.flights) }
         requires second { second ≤ last_second }
         ensures value { result ≡ cost_at self.now rank second }
-        ensures small { result ≤ 100 * second }
+        ensures small { result ≤ greatest_weight * second }
     {
         match self.head().objective {
             Objective::Makespan => 0,

@@ -5,7 +5,7 @@ use Rattle.std.proofs.Common.{Err, refl, subst, arith}
 use Rattle.std.specs.Prelude.{◌&&◌, ◌==◌, if◌then◌else◌}
 use Rattle.std.specs.Result.{result_ok}
 use Rattle.std.proofs.lemmas.Option.{same_Some}
-use Rattle.cps_base.specs.Limits.{most_waiting}
+use Rattle.cps_base.specs.Limits.{greatest_k, greatest_word, most_waiting}
 use Rattle.cps_base.specs.Number.{number_within}
 use Rattle.cps_base.specs.declared.number.NumberFault.{NumberFault}
 use Rattle.text_bounds.specs.shared.Numbers.{within}
@@ -40,7 +40,7 @@ number_in_range word least most n e = go (number_within word least most) (λ m h
     go (Err d) h is = absurd (cc is)
 
 numbers_fit : (a b d : Option ℕ) (c : Command) (words : List (List ℕ))
-    → ((n : ℕ) → b ≡ Some n → (1 ≤ n) × (n ≤ most_waiting)) → ((k : ℕ) → d ≡ Some k → (0 ≤ k) × (k ≤ 3))
+    → ((n : ℕ) → b ≡ Some n → (1 ≤ n) × (n ≤ most_waiting)) → ((k : ℕ) → d ≡ Some k → (0 ≤ k) × (k ≤ greatest_k))
     → trial_by a b d ≡ Some c → Fits c words
 numbers_fit (Some s) (Some n) (Some k) c words few near e =
     subst (λ (x : Command). Fits x words) (same_Some (Trial s n k) c e)
@@ -49,8 +49,8 @@ numbers_fit a b d c words few near e = absurd (cc e)
 
 trial_fits : (rest : List (List ℕ)) (c : Command) (words : List (List ℕ)) → trial_of rest ≡ Some c → Fits c words
 trial_fits (s ∷ n ∷ k ∷ []) c words e =
-    numbers_fit (number_of s 0 4294967295) (number_of n 1 most_waiting) (number_of k 0 3) c words
-    (λ m is. number_in_range n 1 most_waiting m is) (λ m is. number_in_range k 0 3 m is) e
+    numbers_fit (number_of s 0 greatest_word) (number_of n 1 most_waiting) (number_of k 0 greatest_k) c words
+    (λ m is. number_in_range n 1 most_waiting m is) (λ m is. number_in_range k 0 greatest_k m is) e
 trial_fits rest c words e = absurd (cc e)
 
 as_many : (a : Bool) (n m : ℕ) → (a && (n == m)) ≡ true → n ≡ m

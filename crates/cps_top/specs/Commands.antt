@@ -3,7 +3,7 @@ use Rattle.std.specs.Prelude.{ℕ, ◌&&◌, ◌==◌, ◌≤◌, ⊤, List, [],
 use Rattle.std.specs.Prelude.{option_map, unwrap_or, if◌then◌else◌}
 use Rattle.std.specs.Result.{result_ok}
 use Rattle.cps_base.specs.Number.{number_within}
-use Rattle.cps_base.specs.Limits.{most_waiting}
+use Rattle.cps_base.specs.Limits.{greatest_k, greatest_word, most_waiting}
 use Rattle.cps_top.specs.declared.commands.Command.{Command}
 use Rattle.cps_top.specs.declared.commands.Command.TheVariants.{Plan, Replay, Certify, Check, Effort, Trial, First}
 use Rattle.cps_top.specs.declared.commands.Command.TheVariants.{WhatIf, Audit}
@@ -36,7 +36,7 @@ trial_by seed n k = None
 
 -- a seed, a number of flights and a bound on shifts
 abbrev pub trial_of : List (List ℕ) → Option Command
-trial_of (seed ∷ n ∷ k ∷ []) = trial_by (number_of seed 0 4294967295) (number_of n 1 most_waiting) (number_of k 0 3)
+trial_of (seed ∷ n ∷ k ∷ []) = trial_by (number_of seed 0 greatest_word) (number_of n 1 most_waiting) (number_of k 0 greatest_k)
 trial_of words = None
 
 -- the command that these words fit
@@ -65,7 +65,7 @@ files_of words = unwrap_or (option_map (λ command. names_of command words) (com
 
 -- what is asked of its numbers
 abbrev pub IsCommandInRange : Command → Type 0
-IsCommandInRange (Trial seed n k) = (1 ≤ n) × (n ≤ most_waiting) × (k ≤ 3)
+IsCommandInRange (Trial seed n k) = (1 ≤ n) × (n ≤ most_waiting) × (k ≤ greatest_k)
 IsCommandInRange command = ⊤
 
 -- how many files it has

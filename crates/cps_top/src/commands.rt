@@ -7,7 +7,7 @@ ghost use Rattle.cps_top.specs.Commands.{number_of, trial_of};
 ghost use Rattle.cps_top.specs.Outcome.{Follows};
 
 use certificate_commands::{certificate_texts_are_bounded, run_certify, run_check};
-use cps_base::{MOST_WAITING, read_number};
+use cps_base::{GREATEST_K, GREATEST_WORD, MOST_WAITING, read_number};
 use cps_outside::{Gate, Sink};
 use endings::Ending;
 use inquiry_commands::{
@@ -60,9 +60,9 @@ fn read_trial(words: &[String]) -> Option<Command>
     let [seed, n, k] = words else {
         return None;
     };
-    let seed = number(seed.as_str(), 0, 4_294_967_295)?;
+    let seed = number(seed.as_str(), 0, GREATEST_WORD)?;
     let n = number(n.as_str(), 1, u64::from(MOST_WAITING))? as u8;
-    let k = number(k.as_str(), 0, 3)? as u8;
+    let k = number(k.as_str(), 0, GREATEST_K as u64)? as u8;
     Some(Command::Trial { seed, n, k })
 }
 

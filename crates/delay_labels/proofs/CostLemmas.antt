@@ -4,6 +4,7 @@ use Rattle.std.specs.Prelude.{ℤ}
 use Rattle.std.proofs.Math.Nat.{mul-le-mul_right}
 use Rattle.std.proofs.lemmas.Bool.{cases_lt}
 use Rattle.std.proofs.lemmas.List.{get_or_past}
+use Rattle.cps_base.specs.Limits.{dearest_landing}
 use Rattle.cps_theory.specs.Separation.{Landing}
 use Rattle.cps_theory.specs.LandingTrail.{cost_of, latest_landing, ranks}
 use Rattle.cps_theory.specs.Labels.{Pair}
@@ -18,7 +19,6 @@ use Rattle.landing_rules.specs.Problem.{Problem, Waiting}
 use Rattle.landing_rules.specs.Rules.{last_second}
 use Rattle.cps_problem.specs.WellFormed.{IsWellFormed}
 use Rattle.cps_network.specs.Landable.{Attains}
-use Rattle.delay_labels.specs.Bounds.{dearest_landing}
 
 cost_small_by : (o : Objective) (f : Waiting) (t : ℕ) → f.weight ≤ 100 → t ≤ last_second
     → cost_by o f t ≤ dearest_landing

@@ -1,10 +1,6 @@
 -- How much landings and pairs cost at most.
 use Rattle.std.specs.Prelude.{ℕ}
 
--- what a landing costs at most: the greatest weight for each second of the two days but the first
-abbrev pub dearest_landing : ℕ
-dearest_landing = 17279900
-
 -- the greatest number of a `u32`, which no pair costs
 abbrev pub beyond_costs : ℕ
 beyond_costs = 4294967295

@@ -2,7 +2,7 @@
 ghost use Rattle.std.specs.Prelude.{◌≡◌, ◌≤◌, ◌<◌, ◌+◌, IfOk, true, length};
 ghost use Rattle.csv.specs.Records.{fields_of};
 ghost use Rattle.cps_base.specs.Text.{is_callsign};
-ghost use Rattle.cps_base.specs.Limits.{greatest_weight};
+ghost use Rattle.cps_base.specs.Limits.{greatest_weight, most_predecessors};
 ghost use Rattle.landing_rules.specs.Rules.{last_second};
 ghost use Rattle.landing_rules.specs.Sound.{AreGoodWindows};
 ghost use Rattle.event_log.specs.Columns.{column, empty_in, callsign_in, category_in, second_in, weight_in, windows_at, names_at, span_at};
@@ -10,7 +10,7 @@ ghost use Rattle.event_log.specs.Columns.{column, empty_in, callsign_in, categor
 use crate::fault::{Col, FieldCause, LogCause};
 use crate::span::read_span;
 use arrivals::After;
-use cps_base::{Callsign, GREATEST_WEIGHT, read_number};
+use cps_base::{Callsign, GREATEST_WEIGHT, MOST_PREDECESSORS, MOST_WINDOWS, read_number};
 use csv::ByteRecord;
 use csv_records::field;
 use flight_file::{read_after, read_windows};
@@ -92,7 +92,7 @@ pub(crate) fn windows_in(row: &ByteRecord) -> Result<WindowSet, LogCause>
 {
     match read_windows(column(row, Col::Windows)) {
         Ok(windows) => {
-            prove!(windows.spans().len() <= 4);
+            prove!(windows.spans().len() <= MOST_WINDOWS);
             Ok(windows)
         }
         Err(cause) => Err(LogCause::Field(Col::Windows, FieldCause::Windows(cause))),
@@ -102,11 +102,11 @@ pub(crate) fn windows_in(row: &ByteRecord) -> Result<WindowSet, LogCause>
 // The predecessors of the flight with the callsign `own`.
 pub(crate) fn after_in(row: &ByteRecord, own: Callsign) -> Result<After, LogCause>
     ensures value { result ≡ names_at own (fields_of row.now) }
-    ensures few { IfOk result (λ names. length names ≤ 4) }
+    ensures few { IfOk result (λ names. length names ≤ most_predecessors) }
 {
     match read_after(column(row, Col::After), own) {
         Ok(after) => {
-            prove!(after.len() <= 4);
+            prove!(after.len() <= MOST_PREDECESSORS);
             Ok(after)
         }
         Err(cause) => Err(LogCause::Field(Col::After, FieldCause::After(cause))),

@@ -1,4 +1,5 @@
 ghost use Rattle.std.specs.Prelude.{◌≡◌, ◌≤◌, ◌*◌, length, All};
+ghost use Rattle.cps_base.specs.Limits.{dearest_landing};
 ghost use Rattle.landing_rules.specs.Rules.{last_second};
 ghost use Rattle.landing_rules.specs.Problem.{list_objective};
 ghost use Rattle.cps_theory.specs.RankLists.{of_rank, upto};
@@ -34,7 +35,7 @@ fn cost_of(problem: &Problem, schedule: &Schedule, rank: u8) -> u64
     requires room { length schedule.now ≡ length problem.now.flights }
     requires seconds { All (λ t. t ≤ last_second) schedule.now }
     ensures value { result ≡ cost_at problem.now rank (of_rank 0 schedule.now rank) }
-    ensures small { result ≤ 17279900 }
+    ensures small { result ≤ dearest_landing }
 {
     u64::from(problem.cost(rank, schedule.second(rank)))
 }
@@ -44,7 +45,7 @@ fn total_cost(problem: &Problem, schedule: &Schedule) -> u64
     requires seconds { All (λ t. t ≤ last_second) schedule.now }
     ensures value { result ≡ total (λ r. cost_at problem.now r (of_rank 0 schedule.now r))
         (upto (length problem.now.flights)) }
-    ensures small { result ≤ 17279900 * length problem.now.flights }
+    ensures small { result ≤ dearest_landing * length problem.now.flights }
 {
     (1..problem.len() + 1)
         .map(|rank| cost_of(problem, schedule, rank))

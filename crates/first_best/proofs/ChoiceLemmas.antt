@@ -9,7 +9,7 @@ use Rattle.std.proofs.lemmas.Nat.Bits.{bit_at-zero}
 use Rattle.std.specs.Int.{bit_at}
 use Rattle.precedence.specs.Pairs.{HasBit}
 use Rattle.std.proofs.lemmas.Option.{same_Some}
-use Rattle.cps_base.specs.Limits.{most_waiting}
+use Rattle.cps_base.specs.Limits.{dearest_landing, most_waiting}
 use Rattle.landing_rules.specs.Rules.{last_second}
 use Rattle.landing_rules.specs.Problem.{Problem}
 use Rattle.landing_rules.specs.FirstBest.{IsFirstBestList}
@@ -115,7 +115,7 @@ pub record IsOrder (p : Problem) (v : ℕ) (done : ℕ) (before : EarlyNode) (co
   pub room : length schedule ≡ length p.flights
   pub last : before.last ≤ length p.flights
   pub early : before.earliest ≤ last_second
-  pub small : cost ≤ 17279900 * done
+  pub small : cost ≤ dearest_landing * done
 
 module _ (p : Problem) (wf : IsWellFormed p) (v : ℕ) (held : Option HeldProblem) (stages : List StageAhead)
     (a : IsAheadWithin p v held stages) where
@@ -266,7 +266,7 @@ module _ (p : Problem) (wf : IsWellFormed p) (v : ℕ) (held : Option HeldProble
     pub one_landing : (r t : ℕ) → CanChoose p v (IsCompletingPair p v) o.landings r t
         → ((q u : ℕ) → CanChoose p v (IsCompletingPair p v) o.landings q u → r ≤ q) → t ≤ last_second
         → (after : EarlyNode) → ((x : ℕ) → HasBit after.placed x ↔ (HasBit before.placed x ⊎ (x ≡ r))) → after.last ≡ r
-        → after.earliest ≡ t → (price : ℕ) → price ≡ cost_at p r t → price ≤ 17279900
+        → after.earliest ≡ t → (price : ℕ) → price ≡ cost_at p r t → price ≤ dearest_landing
         → IsOrder p v (done + 1) after (cost + price) (slice_set schedule (r - 1) t)
     one_landing r t can least days after placed last earliest price is few = record {
       landings = (r, t) ∷ o.landings;

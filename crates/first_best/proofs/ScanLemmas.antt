@@ -2,6 +2,7 @@
 use Rattle.std.proofs.Common.{◌≡◌, ℕ, ◌+◌, ◌-◌, ◌*◌, ◌<◌, ◌≤◌, ◌⊎◌, inl, inr, List, [], ◌∷◌, ◌++◌, length, reverse}
 use Rattle.std.proofs.Common.{Option, Some, None, refl, le_refl, arith}
 use Rattle.std.proofs.lemmas.Bool.{cases_eq, cases_lt}
+use Rattle.cps_base.specs.Limits.{dearest_landing}
 use Rattle.landing_rules.specs.Rules.{last_second}
 use Rattle.landing_rules.specs.Problem.{Problem}
 use Rattle.cps_theory.specs.Labels.{InPairs, Pair}
@@ -72,7 +73,7 @@ module _ (p : Problem) (v : ℕ) (budget : Option ℕ) (stage : ℕ) (node : Ear
         (d.0, d.1, (omega arith, omega arith)))
 
     pub cheaper : (cost : ℕ) → cost_here ≡ Some cost → cost < least → second ≤ last_second
-        → cost ≤ 17279900 * (length p.flights - stage) → Scanned second cost (pairs ++ (second, cost) ∷ [])
+        → cost ≤ dearest_landing * (length p.flights - stage) → Scanned second cost (pairs ++ (second, cost) ∷ [])
     cheaper cost is lt in_days small =
         let l = is_least (Some cost) is in
         let here = in_right (second, cost) pairs ((second, cost) ∷ []) (inl refl) in
@@ -87,7 +88,7 @@ module _ (p : Problem) (v : ℕ) (budget : Option ℕ) (stage : ℕ) (node : Ear
                 let a = (s.found.are o i).1 in
                 let b = s.least_of o i in
                 (omega arith, omega arith));
-            in_reach = each_pair (λ q. (q.0 ≤ last_second) × (q.1 ≤ 17279900 * (length p.flights - stage))) pairs
+            in_reach = each_pair (λ q. (q.0 ≤ last_second) × (q.1 ≤ dearest_landing * (length p.flights - stage))) pairs
                 (second, cost) s.found.in_reach (in_days, small);
           };
           least_of = each_pair (λ q. cost ≤ q.1) pairs (second, cost)

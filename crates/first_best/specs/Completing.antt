@@ -1,6 +1,7 @@
 -- The pairs by which a node can still be completed, from those of the nodes that it leads to.
 use Rattle.std.specs.Prelude.{◌≡◌, ℕ, ◌+◌, ◌-◌, ◌*◌, ◌<◌, ◌≤◌, ◌⊎◌, List, [], ◌∷◌, length, slice_index_or, true}
 use Rattle.std.specs.Prelude.{Option, Some, None, MatchOption}
+use Rattle.cps_base.specs.Limits.{dearest_landing}
 use Rattle.landing_rules.specs.Rules.{last_second}
 use Rattle.landing_rules.specs.Problem.{Problem}
 use Rattle.cps_theory.specs.Labels.{InPairs, Pair}
@@ -38,13 +39,9 @@ Falls (q ∷ qs) = ((o : Pair) → InPairs o qs → (o.0 < q.0) × (o.1 < q.1)) 
 abbrev pub IsCostFrom : List Pair → ℕ → ℕ → Type 0
 IsCostFrom pairs second cost = (q : Pair) × InPairs q pairs × (second ≤ q.0) × (q.1 ≡ cost)
 
--- the most that one flight costs: a weight of 100, and 172,799 seconds of delay
-abbrev pub most_cost : ℕ
-most_cost = 17279900
-
 -- seconds of the two days, and the costs of so many flights
 abbrev pub AreInReach : ℕ → List Pair → Type 0
-AreInReach left pairs = (q : Pair) → InPairs q pairs → (q.0 ≤ last_second) × (q.1 ≤ most_cost * left)
+AreInReach left pairs = (q : Pair) → InPairs q pairs → (q.0 ≤ last_second) × (q.1 ≤ dearest_landing * left)
 
 -- ---- ways
 

@@ -1,7 +1,7 @@
 //! The order of least ranks, chosen place by place.
 
 ghost use Rattle.std.specs.Prelude.{◌≡◌, ℕ, ◌*◌, ◌<◌, ◌≤◌, ◌⊎◌, ◌↔◌, IfOk, IfSome, Some, length};
-ghost use Rattle.cps_base.specs.Limits.{most_waiting};
+ghost use Rattle.cps_base.specs.Limits.{dearest_landing, most_waiting};
 ghost use Rattle.precedence.specs.Pairs.{HasBit};
 ghost use Rattle.cps_network.specs.Pairs.{list_at};
 ghost use Rattle.landing_rules.specs.Rules.{last_second};
@@ -9,7 +9,7 @@ ghost use Rattle.landing_rules.specs.FirstBest.{IsFirstBestList};
 ghost use Rattle.landing_joint.specs.CompletingPairs.{IsLeastObjective};
 ghost use Rattle.replan.specs.Kept.{held_of, problem_held};
 ghost use Rattle.first_best.specs.Choices.{lesser_choice, FindsAffordable, FindsWay, IsLeastChoice, IsLesserBy};
-ghost use Rattle.first_best.specs.Completing.{most_cost, Rises};
+ghost use Rattle.first_best.specs.Completing.{Rises};
 ghost use Rattle.first_best.specs.Nodes.{node_at};
 ghost use Rattle.first_best.specs.Ranges.{HasRank, IsPlacedIn};
 ghost use Rattle.first_best.specs.Stages.{IsAheadWithin};
@@ -40,7 +40,7 @@ fn affordable(prefix: &Prefix<'_>, after: EarlyNode, pairs: &PairList) -> Option
     requires before { IsPlacedIn prefix.now.problem.now prefix.now.node }
     requires after { HasRank prefix.now.problem.now after }
     requires rising { Rises pairs.now }
-    requires cost { prefix.now.cost ≤ most_cost * most_waiting }
+    requires cost { prefix.now.cost ≤ dearest_landing * most_waiting }
     ensures found { FindsAffordable prefix.now.problem.now prefix.now.budget prefix.now.node
         prefix.now.cost after pairs.now result }
     ensures in_days { IfSome result (λ t. t ≤ last_second) }
@@ -81,7 +81,7 @@ fn found_by(prefix: &Prefix<'_>, after: EarlyNode, pairs: &PairList) -> Option<u
     requires before { IsPlacedIn prefix.now.problem.now prefix.now.node }
     requires after { HasRank prefix.now.problem.now after }
     requires rising { Rises pairs.now }
-    requires cost { prefix.now.cost ≤ most_cost * most_waiting }
+    requires cost { prefix.now.cost ≤ dearest_landing * most_waiting }
     ensures found { FindsWay prefix.now.problem.now prefix.now.budget prefix.now.node
         prefix.now.cost after pairs.now result }
     ensures in_days { IfSome result (λ t. t ≤ last_second) }
@@ -102,7 +102,7 @@ fn with_node(prefix: &Prefix<'_>, stage: &StageAhead, j: usize, least: (u8, u32)
     requires list { j < length stage.now.lists }
     requires rank { HasRank prefix.now.problem.now (node_at stage.now.nodes j) }
     requires rising { Rises (list_at stage.now.lists j) }
-    requires cost { prefix.now.cost ≤ most_cost * most_waiting }
+    requires cost { prefix.now.cost ≤ dearest_landing * most_waiting }
     ensures lesser { IsLesserBy prefix.now.problem.now prefix.now.budget prefix.now.node
         prefix.now.cost (node_at stage.now.nodes j) (list_at stage.now.lists j) least result }
     ensures in_days { least.1 ≤ last_second → result.1 ≤ last_second }
@@ -119,7 +119,7 @@ fn least_choice(prefix: &Prefix<'_>, stage: &StageAhead) -> (u8, u32)
     requires ranks { (j : ℕ) → j < length stage.now.nodes
         → HasRank prefix.now.problem.now (node_at stage.now.nodes j) }
     requires rising { (j : ℕ) → Rises (list_at stage.now.lists j) }
-    requires cost { prefix.now.cost ≤ most_cost * most_waiting }
+    requires cost { prefix.now.cost ≤ dearest_landing * most_waiting }
     ensures least { IsLeastChoice prefix.now.problem.now prefix.now.budget prefix.now.node
         prefix.now.cost stage.now.nodes stage.now.lists result }
     ensures in_days { result.1 ≤ last_second }

@@ -1,12 +1,13 @@
 //! The pairs that complete the nodes of a stage, from those of the next.
 
 ghost use Rattle.std.specs.Prelude.{◌≡◌, ℕ, ◌&&◌, ◌-◌, ◌*◌, ◌<◌, ◌≤◌, IfOk, IfSome, length, true};
+ghost use Rattle.cps_base.specs.Limits.{dearest_landing};
 ghost use Rattle.landing_rules.specs.Rules.{last_second};
 ghost use Rattle.cps_theory.specs.Labels.{Pair};
 ghost use Rattle.landing_joint.specs.RankedProblem.{ranked};
 ghost use Rattle.landing_joint.specs.CompletingPairs.{is_low};
 ghost use Rattle.first_best.specs.Nodes.{node_at};
-ghost use Rattle.first_best.specs.Completing.{most_cost, AreFalling, AreListsOf, ArePairsOf, AreWaysOf, IsLeastOf, IsPairOf};
+ghost use Rattle.first_best.specs.Completing.{AreFalling, AreListsOf, ArePairsOf, AreWaysOf, IsLeastOf, IsPairOf};
 ghost use Rattle.first_best.specs.Ranges.{HasRank, IsNextIn};
 
 use crate::budget::limit_of;
@@ -81,7 +82,7 @@ fn cost_of(
         IsPairOf wanted.now.problem.now wanted.now.value wanted.now.stage node
         next.now (second, c)) result }
     ensures small { IfSome result (λ c.
-        c ≤ most_cost * (length wanted.now.problem.now.flights - wanted.now.stage)) }
+        c ≤ dearest_landing * (length wanted.now.problem.now.flights - wanted.now.stage)) }
 {
     if is_allowed(wanted.problem, wanted.value, node.last, second) {
         least_cost(wanted.problem, wanted.stage, node, next, ways, second)

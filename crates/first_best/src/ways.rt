@@ -1,11 +1,11 @@
 //! Ways: what a node leads to, and what is left behind it.
 
 ghost use Rattle.std.specs.Prelude.{◌≡◌, ℕ, ◌+◌, ◌-◌, ◌*◌, ◌<◌, ◌≤◌, IfOk, IfSome, length};
-ghost use Rattle.cps_base.specs.Limits.{most_waiting};
+ghost use Rattle.cps_base.specs.Limits.{dearest_landing, most_waiting};
 ghost use Rattle.landing_rules.specs.Rules.{last_second};
 ghost use Rattle.cps_network.specs.Pairs.{list_at};
 ghost use Rattle.first_best.specs.Nodes.{node_at};
-ghost use Rattle.first_best.specs.Completing.{most_cost, AreWaysOf, IsEnd, IsLeastOf, IsWayTo};
+ghost use Rattle.first_best.specs.Completing.{AreWaysOf, IsEnd, IsLeastOf, IsWayTo};
 ghost use Rattle.first_best.specs.Ranges.{HasRank, IsNextIn};
 
 use crate::node::{EarlyNode, leads_to};
@@ -49,7 +49,7 @@ fn cost_by(
     requires second { second ≤ last_second }
     ensures least { IsLeastOf (IsWayTo problem.now node
         (node_at next.now.nodes way) (list_at next.now.lists way) second) result }
-    ensures small { IfSome result (λ c. c ≤ most_cost * (length problem.now.flights - stage)) }
+    ensures small { IfSome result (λ c. c ≤ dearest_landing * (length problem.now.flights - stage)) }
 {
     let after = next.node(way);
     let landing = problem.landing_after(node.last, second, after.last)?;
@@ -73,7 +73,7 @@ pub(crate) fn least_cost(
     requires second { second ≤ last_second }
     ensures least { IsLeastOf
         (IsEnd problem.now stage node next.now second) result }
-    ensures small { IfSome result (λ c. c ≤ most_cost * (length problem.now.flights - stage)) }
+    ensures small { IfSome result (λ c. c ≤ dearest_landing * (length problem.now.flights - stage)) }
 {
     if stage == problem.len() {
         return Some(0);

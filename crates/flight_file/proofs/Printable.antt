@@ -6,6 +6,7 @@ use Rattle.std.specs.List.{list_any}
 use Rattle.std.proofs.Math.ListN.{get_or-append}
 use Rattle.std.proofs.Math.Seq.{get_or-append_seam}
 use Rattle.std.proofs.lemmas.List.Folds.{list_any_none}
+use Rattle.cps_base.specs.Limits.{most_predecessors}
 use Rattle.cps_base.specs.Text.{is_callsign}
 use Rattle.landing_rules.specs.Rules.{last_second}
 use Rattle.landing_windows.specs.Windows.{windows_of}
@@ -33,7 +34,7 @@ pub record IsPrintable (f : Flight) : Type 0 where
   pub windows : windows_of f.windows ≡ Ok f.windows
   pub in_days : AreInDays f.windows
   pub after : AreNewNames f.callsign [] f.after
-  pub few_after : length f.after ≤ 4
+  pub few_after : length f.after ≤ most_predecessors
 
 abbrev pub ArePrintable : List Flight → List Flight → Type 0
 ArePrintable before [] = ⊤

@@ -2,6 +2,7 @@
 use Rattle.std.specs.Prelude.{ℕ, List, [], ◌∷◌, ◌++◌, not, ◌==◌, ◌+◌, nat_lt, length, bytes_eq, Result, Ok, Err}
 use Rattle.std.specs.Prelude.{if◌then◌else◌}
 use Rattle.std.specs.List.{list_any}
+use Rattle.cps_base.specs.Limits.{most_predecessors}
 use Rattle.cps_base.specs.Answers.{◌>>=◌}
 use Rattle.texts.specs.Parts.{parts}
 use Rattle.cps_base.specs.Text.{is_callsign}
@@ -25,5 +26,5 @@ names_from own i before (p ∷ ps) = name_in own i before p >>= (λ c. names_fro
 unfoldable pub names_in : List ℕ → List ℕ → Result (List (List ℕ)) AfterCause
 names_in own text =
     if length text == 0 then Ok []
-    else if nat_lt 4 (length (parts 59 text)) then Err TooMany
+    else if nat_lt most_predecessors (length (parts 59 text)) then Err TooMany
     else names_from own 1 [] (parts 59 text)

@@ -1,5 +1,6 @@
 -- The windows that a field holds, or its first fault.
 use Rattle.std.specs.Prelude.{ℕ, List, [], ◌∷◌, ◌==◌, ◌+◌, nat_lt, length, Result, Ok, Err, if◌then◌else◌}
+use Rattle.cps_base.specs.Limits.{most_windows}
 use Rattle.cps_base.specs.Answers.{fault_as, ◌>>=◌}
 use Rattle.landing_rules.specs.Rules.{last_second}
 use Rattle.texts.specs.Parts.{parts}
@@ -31,5 +32,5 @@ windows_from i (p ∷ ps) = window_in i p >>= (λ w. windows_from (i + 1) ps >>=
 unfoldable pub windows_in : List ℕ → Result (List (ℕ × ℕ)) WindowsCause
 windows_in text =
     if length text == 0 then Err (Set window.Empty)
-    else if nat_lt 4 (length (parts 59 text)) then Err (Set window.TooMany)
+    else if nat_lt most_windows (length (parts 59 text)) then Err (Set window.TooMany)
     else (windows_from 1 (parts 59 text) >>= (λ ws. fault_as Set (windows_of ws)))

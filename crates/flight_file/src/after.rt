@@ -1,12 +1,13 @@
 ghost use Rattle.std.specs.Prelude.{◌≡◌, IfOk, ◌≤◌, [], length};
+ghost use Rattle.cps_base.specs.Limits.{most_predecessors};
 ghost use Rattle.texts.specs.Parts.{parts};
 ghost use Rattle.arrivals.specs.Flights.{AreOthers};
 ghost use Rattle.flight_file.specs.After.{names_in, name_in, names_from};
 
 use crate::fault::AfterCause;
 use arrivals::After;
-use cps_base::Callsign;
-use texts::{first_part, has_many_parts};
+use cps_base::{Callsign, MOST_PREDECESSORS};
+use texts::{first_part, has_more_parts};
 
 // One more predecessor, part `number`, behind those of the parts before it.
 fn name_in(own: Callsign, number: u8, before: &After, text: &[u8]) -> Result<Callsign, AfterCause>
@@ -27,7 +28,7 @@ fn name_in(own: Callsign, number: u8, before: &After, text: &[u8]) -> Result<Cal
 // The predecessors that the parts of a text name.
 #[tactic(auto, unfolding(crate::specs::After::names_from))]
 fn names_in_parts(text: &[u8], own: Callsign) -> Result<After, AfterCause>
-    requires { length (parts 59 text.now) ≤ 4 }
+    requires { length (parts 59 text.now) ≤ most_predecessors }
     ensures { result ≡ names_from own 1 [] (parts 59 text.now) }
 {
     let mut names = After::new(own);
@@ -54,7 +55,7 @@ pub fn read_after(text: &[u8], own: Callsign) -> Result<After, AfterCause>
     if text.is_empty() {
         return Ok(After::new(own));
     }
-    if has_many_parts(text, b';') {
+    if has_more_parts(text, b';', MOST_PREDECESSORS) {
         return Err(AfterCause::TooMany);
     }
     names_in_parts(text, own)

@@ -1,5 +1,6 @@
 ghost use Rattle.std.specs.Prelude.{◌≡◌, ◌≤◌, IsTrue, length, take, IfOk};
 ghost use Rattle.std.specs.List.{list_all};
+ghost use Rattle.cps_base.specs.Limits.{most_windows};
 ghost use Rattle.cps_base.specs.Answers.{ok_map};
 ghost use Rattle.landing_rules.specs.Rules.{last_second};
 ghost use Rattle.texts.specs.Parts.{parts};
@@ -7,9 +8,9 @@ ghost use Rattle.landing_windows.specs.Windows.{is_in_days};
 ghost use Rattle.flight_file.specs.Windows.{second_in, window_in, windows_from, windows_in};
 
 use crate::fault::WindowsCause;
-use cps_base::read_number;
+use cps_base::{MOST_WINDOWS, read_number};
 use landing_windows::{LAST_SECOND, WindowFault, WindowSet};
-use texts::{first_part, has_many_parts};
+use texts::{first_part, has_more_parts};
 
 // The second that a text in part `number` is.
 fn second_in(number: u8, text: &[u8]) -> Result<u32, WindowsCause>
@@ -43,13 +44,13 @@ fn window_in(number: u8, text: &[u8]) -> Result<(u32, u32), WindowsCause>
 
 // The windows that a text holds, whose parts are at most four.
 #[tactic(auto, unfolding(crate::specs::Windows::windows_from))]
-fn spans_in(text: &[u8]) -> Result<([(u32, u32); 4], usize), WindowsCause>
-    requires { length (parts 59 text.now) ≤ 4 }
-    ensures count { IfOk result (λ r. (r.1 ≤ 4) × (length r.0 ≡ 4)) }
+fn spans_in(text: &[u8]) -> Result<([(u32, u32); MOST_WINDOWS], usize), WindowsCause>
+    requires { length (parts 59 text.now) ≤ most_windows }
+    ensures count { IfOk result (λ r. (r.1 ≤ most_windows) × (length r.0 ≡ most_windows)) }
     ensures range { IfOk result (λ r. IsTrue (list_all is_in_days (take r.1 r.0))) }
     ensures value { windows_from 1 (parts 59 text.now) ≡ ok_map (λ r. take r.1 r.0) result }
 {
-    let mut spans = [(0, 0); 4];
+    let mut spans = [(0, 0); MOST_WINDOWS];
     let mut count = 0;
     let mut rest = Some(text);
     while let Some(text) = rest {
@@ -72,7 +73,7 @@ pub fn read_windows(text: &[u8]) -> Result<WindowSet, WindowsCause>
     if text.is_empty() {
         return Err(WindowsCause::Set(WindowFault::Empty));
     }
-    if has_many_parts(text, b';') {
+    if has_more_parts(text, b';', MOST_WINDOWS) {
         return Err(WindowsCause::Set(WindowFault::TooMany));
     }
     let (spans, count) = spans_in(text)?;

@@ -9,7 +9,7 @@ use Rattle.std.proofs.lemmas.Option.{same_Some}
 use Rattle.std.proofs.lemmas.List.Elements.{All-head, All-tail}
 use Rattle.landing_rules.specs.Events as rules
 use Rattle.landing_rules.specs.Flights.{Active, Situation}
-use Rattle.cps_base.specs.Limits.{most_flights, most_waiting}
+use Rattle.cps_base.specs.Limits.{greatest_k, most_flights, most_waiting}
 use Rattle.landing_rules.specs.Sound.{IsGoodFlight, IsSound}
 use Rattle.landing_rules.specs.Text.{cause}
 use Rattle.arrivals.specs.declared.aerodrome.Aerodrome.{Aerodrome}
@@ -57,7 +57,7 @@ place_short k i (p ∷ ps) r few e = elim (cases_Bool (nat_lt k p.count)) [
   | inr below ↦ place_short k (i + 1) ps r (omega arith) (rw below at e)
 ]
 
-shift_short : (a : Aerodrome) (k : ℕ) (r : TrialRefusal) → IsInRange a → k ≤ 3 → shift_refusal a k ≡ Some r
+shift_short : (a : Aerodrome) (k : ℕ) (r : TrialRefusal) → IsInRange a → k ≤ greatest_k → shift_refusal a k ≡ Some r
     → IsShort r
 shift_short a k r range small e = elim (cases_Bool (is_beyond a.version k a.objective)) [
   | inl beyond ↦

@@ -6,6 +6,7 @@ use Rattle.std.proofs.lemmas.Bool.{cases_Bool, and_parts}
 use Rattle.std.proofs.lemmas.Bool.Decides.{nat_tests}
 use Rattle.std.proofs.lemmas.Grind.{common_steps}
 use Rattle.std.specs.List.{list_all}
+use Rattle.cps_base.specs.Limits.{most_open_seconds, most_windows}
 use Rattle.landing_rules.specs.Flights.{Span}
 use Rattle.landing_rules.specs.Rules.{last_second}
 use Rattle.landing_rules.specs.Sound.{AreGoodWindows}
@@ -49,9 +50,9 @@ in_order_of i before (s ∷ ss) e days = elim (cases_Bool (nat_lt s.1 s.0)) [
 -- what each of the tests says where it passes
 pub record Passed (ws : List Span) : Type 0 where
   pub some : 1 ≤ length ws
-  pub few : length ws ≤ 4
+  pub few : length ws ≤ most_windows
   pub in_order : bad_span 1 None ws ≡ None
-  pub short : seconds_in ws ≤ 7200
+  pub short : seconds_in ws ≤ most_open_seconds
 
 no_fault : (ws : List Span) (fault : Option WindowFault) (b : Bool)
     → fault_or fault (cond b (Err TooLong) (Ok ws)) ≡ Ok ws → (fault ≡ None) × (b ≡ false)
@@ -63,12 +64,12 @@ pub passed : (ws : List Span) → windows_of ws ≡ Ok ws → Passed ws
 unfolding windows_of
 passed ws e = elim (cases_Bool (length ws == 0)) [
   | inl empty ↦ let none : Err Empty ≡ Ok ws = rw empty at e in absurd (cc none)
-  | inr some ↦ elim (cases_Bool (nat_lt 4 (length ws))) [
+  | inr some ↦ elim (cases_Bool (nat_lt most_windows (length ws))) [
     | inl many ↦ let none : Err TooMany ≡ Ok ws = rw (some, many) at e in absurd (cc none)
     | inr few ↦
-        let rest : fault_or (bad_span 1 None ws) (cond (nat_lt 7200 (seconds_in ws)) (Err TooLong) (Ok ws)) ≡ Ok ws =
+        let rest : fault_or (bad_span 1 None ws) (cond (nat_lt most_open_seconds (seconds_in ws)) (Err TooLong) (Ok ws)) ≡ Ok ws =
         rw (some, few) at e in
-        let both = no_fault ws (bad_span 1 None ws) (nat_lt 7200 (seconds_in ws)) rest in
+        let both = no_fault ws (bad_span 1 None ws) (nat_lt most_open_seconds (seconds_in ws)) rest in
         let short = both.1 in
         record {
           some = grind (arith, nat_tests, common_steps);

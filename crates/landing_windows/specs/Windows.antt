@@ -3,7 +3,7 @@ use Rattle.std.specs.Prelude.{ℕ, zero, suc, List, [], ◌∷◌, Bool, false, 
 use Rattle.std.specs.Prelude.{slice_index_or, sum_by, Option, Some, None, Result, Ok, Err, if◌then◌else◌}
 use Rattle.std.specs.Option.{option_or}
 use Rattle.landing_rules.specs.Flights.{Span}
-use Rattle.cps_base.specs.Limits.{most_open_seconds}
+use Rattle.cps_base.specs.Limits.{most_open_seconds, most_windows}
 use Rattle.landing_rules.specs.Rules.{last_second}
 use Rattle.landing_windows.specs.declared.windows.WindowFault.{WindowFault}
 use Rattle.landing_windows.specs.declared.windows.WindowFault.TheVariants.{Empty, TooMany, Backward, Overlap, TooLong}
@@ -43,6 +43,6 @@ fault_or None r = r
 unfoldable pub windows_of : List Span → Result (List Span) WindowFault
 windows_of spans =
     if length spans == 0 then Err Empty
-    else if nat_lt 4 (length spans) then Err TooMany
+    else if nat_lt most_windows (length spans) then Err TooMany
     else fault_or (bad_span 1 None spans) (if nat_lt most_open_seconds (seconds_in spans) then Err TooLong
     else Ok spans)

@@ -1,5 +1,6 @@
 ghost use Rattle.std.specs.Prelude.{◌≡◌, ◌≤◌, ◌<◌, ◌+◌, ◌*◌, length, slice_index_or, IsTrue, None, Ok};
 ghost use Rattle.std.specs.List.{list_all};
+ghost use Rattle.cps_base.specs.Limits.{most_windows};
 ghost use Rattle.landing_rules.specs.Sound.{AreGoodWindows};
 ghost use Rattle.landing_windows.specs.Spans.{AreInOrder};
 ghost use Rattle.landing_windows.specs.Windows.{
@@ -11,7 +12,7 @@ ghost use Rattle.landing_windows.specs.Windows.{
   windows_of,
 };
 
-use cps_base::MOST_OPEN_SECONDS;
+use cps_base::{MOST_OPEN_SECONDS, MOST_WINDOWS};
 use std::marker::Model;
 
 /// The last second of the two days that a schedule may use. Seconds count from 0.
@@ -36,7 +37,7 @@ pub enum WindowFault {
 /// together. Contracts see the list of spans.
 #[derive(Clone, Copy)]
 pub struct WindowSet {
-    spans: [(u32, u32); 4],
+    spans: [(u32, u32); MOST_WINDOWS],
     len: usize,
 }
 
@@ -44,6 +45,7 @@ impl Model for WindowSet {
     ghost use Rattle.std.specs.Prelude.{◌≡◌, List, ℕ, take, length, Ok, IsTrue};
     ghost use Rattle.std.specs.List.{list_all};
     ghost use Rattle.std.proofs.Common.{sym};
+    ghost use Rattle.cps_base.specs.Limits.{most_windows};
     ghost use Rattle.cps_base.specs.Padded.{padded};
     ghost use Rattle.landing_windows.specs.Windows.{is_in_days, windows_of};
 
@@ -51,12 +53,12 @@ impl Model for WindowSet {
 
     ghost view = { λ w. take w.len w.spans };
 
-    ghost invariant = { λ w. (w.spans ≡ padded (0, 0) 4 (take w.len w.spans))
+    ghost invariant = { λ w. (w.spans ≡ padded (0, 0) most_windows (take w.len w.spans))
         × (length (take w.len w.spans) ≡ w.len)
         × (windows_of (take w.len w.spans) ≡ Ok (take w.len w.spans))
         × IsTrue (list_all is_in_days (take w.len w.spans)) };
 
-    ghost inverse = { λ spans. record { spans = padded (0, 0) 4 spans; len = length spans } };
+    ghost inverse = { λ spans. record { spans = padded (0, 0) most_windows spans; len = length spans } };
 
     ghost inverse_ok = { λ w h i. record { spans = sym h.0 i; len = h.1 i } };
 }
@@ -64,7 +66,7 @@ impl Model for WindowSet {
 // What is wrong with the span of a place, counted from 0, after the one before it.
 #[tactic(auto, unfolding(crate::specs::Windows::end_before))]
 fn fault_at(spans: &[(u32, u32)], place: usize) -> Option<WindowFault>
-    requires few { length spans.now ≤ 4 }
+    requires few { length spans.now ≤ most_windows }
     requires place { place < length spans.now }
     ensures { result ≡ span_fault (place + 1) (end_before spans.now place)
         (slice_index_or spans.now place (0, 0)) }
@@ -82,7 +84,7 @@ fn fault_at(spans: &[(u32, u32)], place: usize) -> Option<WindowFault>
 
 // The first fault along the spans.
 fn bad_span(spans: &[(u32, u32)]) -> Option<WindowFault>
-    requires { length spans.now ≤ 4 }
+    requires { length spans.now ≤ most_windows }
     ensures { result ≡ bad_span 1 None spans.now }
 {
     (0..spans.len()).find_map(|place| fault_at(spans, place))
@@ -90,7 +92,7 @@ fn bad_span(spans: &[(u32, u32)]) -> Option<WindowFault>
 
 #[tactic(auto, unfolding(crate::specs::Windows::seconds_in))]
 fn seconds_in(spans: &[(u32, u32)]) -> u64
-    requires { length spans.now ≤ 4 }
+    requires { length spans.now ≤ most_windows }
     ensures { result ≡ seconds_in spans.now }
 {
     spans
@@ -109,7 +111,7 @@ impl WindowSet {
         if spans.is_empty() {
             return Err(WindowFault::Empty);
         }
-        if spans.len() > 4 {
+        if spans.len() > MOST_WINDOWS {
             return Err(WindowFault::TooMany);
         }
         if let Some(fault) = bad_span(spans) {
@@ -119,7 +121,7 @@ impl WindowSet {
             return Err(WindowFault::TooLong);
         }
         let len = spans.len();
-        let mut kept = [(0, 0); 4];
+        let mut kept = [(0, 0); MOST_WINDOWS];
         kept[..len].copy_from_slice(spans);
         Ok(WindowSet { spans: kept, len })
     }

@@ -1,5 +1,5 @@
 ghost use Rattle.std.specs.Prelude.{◌≡◌, ◌≤◌, [], length, MatchResult, IfOk};
-ghost use Rattle.cps_base.specs.Limits.{most_waiting};
+ghost use Rattle.cps_base.specs.Limits.{greatest_k, most_waiting};
 ghost use Rattle.landing_rules.specs.Text.{plan_shown};
 ghost use Rattle.arrivals.specs.Aerodromes.{IsInRange};
 ghost use Rattle.arrivals.specs.Flights.{AreArrivals};
@@ -100,7 +100,7 @@ fn report_seed<R: Threads + Sync, G: Gate + Sync>(
     gate: &G,
 ) -> Result<Report, Ending>
     requires count { (1 ≤ numbers.n) × (numbers.n ≤ most_waiting) }
-    requires shifts { numbers.k ≤ 3 }
+    requires shifts { numbers.k ≤ greatest_k }
     ensures { MatchResult result
         (λ r. AdmitsTrial numbers.seed numbers.n numbers.k r.text.items r.answer)
         StopsTrial }
@@ -121,7 +121,7 @@ pub fn run_trial<R: Threads + Sync, S: Sink, G: Gate + Sync>(
     gate: &G,
 ) -> Ending
     requires count { (1 ≤ numbers.n) × (numbers.n ≤ most_waiting) }
-    requires shifts { numbers.k ≤ 3 }
+    requires shifts { numbers.k ≤ greatest_k }
     ensures { FollowsTrial numbers.seed numbers.n numbers.k
         (S.state out.old) (S.state out.new) result }
 {

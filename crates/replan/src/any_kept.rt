@@ -1,6 +1,7 @@
 //! The planner that is kept from event to event.
 
 ghost use Rattle.std.specs.Prelude.{◌≡◌, ℕ, ◌≤◌, IfOk, OnOk, OnErr, None, Some};
+ghost use Rattle.cps_base.specs.Limits.{greatest_k};
 ghost use Rattle.cps_base.specs.Tally.{raised_by};
 ghost use Rattle.cps_network.specs.Due.{IsDue};
 ghost use Rattle.cps_network.specs.shared.OneDue.{one_due};
@@ -30,7 +31,7 @@ pub enum AnyKept {
 impl AnyKept {
     /// The planner for this k, which holds no problem yet. It takes no memory.
     pub fn fresh(k: u8) -> AnyKept
-        requires { k ≤ 3 }
+        requires { k ≤ greatest_k }
         ensures k { k_of result ≡ k }
         ensures none { problem_held result ≡ None }
     {

@@ -1,5 +1,6 @@
 -- What the frozen flights leave to the waiting ones: the last landing of all, and the delay.
 use Rattle.std.proofs.lemmas.Bool.{cases_Bool, ltb-false, le-ltb}
+use Rattle.cps_base.specs.Limits.{dearest_landing}
 use Rattle.landing_rules.specs.shared.Members.{cases_option}
 use Rattle.std.proofs.Common.{◌≡◌, ℕ, ◌+◌, ◌-◌, ◌*◌, ◌<◌, ◌≤◌, cond, List, [], ◌∷◌, length, filter, Option, Some, None}
 use Rattle.std.proofs.Common.{nat_lt, inl, inr, refl, sym, ap, ◌∙◌, arith}
@@ -107,20 +108,20 @@ small_delays closures (x ∷ xs) good shown =
     ]
 
 -- of one flight at most 100 times each second of the two days, and nothing where it waits
-one_low : (a : Active) → HasSmallDelay a → delay_of a + 17279900 * cond {A = ℕ} (is_waiting a) 1 0 ≤ 17279900
+one_low : (a : Active) → HasSmallDelay a → delay_of a + dearest_landing * cond {A = ℕ} (is_waiting a) 1 0 ≤ dearest_landing
 one_low a h = go a.frozen h.second
   where
     go : (o : Option ℕ) → MatchOption o ⊤ (λ t. t ≤ last_second)
-        → frozen_delay a o + 17279900 * cond {A = ℕ} (is_none o) 1 0 ≤ 17279900
+        → frozen_delay a o + dearest_landing * cond {A = ℕ} (is_none o) 1 0 ≤ dearest_landing
     go None m = omega arith
     go (Some t) m =
         let d : ℕ = t - a.flight.eta in
         let x : a.flight.weight * d ≤ 100 * d = mul-le-mul_right d h.weight in
-        let y : 100 * d ≤ 17279900 = omega arith in
+        let y : 100 * d ≤ dearest_landing = omega arith in
         omega arith
 
 all_low : (xs : List Active) → All HasSmallDelay xs
-    → sum_by delay_of xs + 17279900 * length (filter is_waiting xs) ≤ 17279900 * length xs
+    → sum_by delay_of xs + dearest_landing * length (filter is_waiting xs) ≤ dearest_landing * length xs
 all_low [] h = omega arith
 all_low (x ∷ xs) h =
     let one = one_low x (All-head HasSmallDelay x xs h) in
@@ -131,14 +132,14 @@ all_low (x ∷ xs) h =
       | inr e ↦ rw e (omega (arith, rw e at one, rest, sum))
     ]
 
-pub base_low : (s : Situation) → IsSound s → frozen_cost s.aerodrome.objective (frozen_landings s) + 17279900 * length
-    (waiting s) ≤ 17279900 * length s.active
+pub base_low : (s : Situation) → IsSound s → frozen_cost s.aerodrome.objective (frozen_landings s) + dearest_landing * length
+    (waiting s) ≤ dearest_landing * length s.active
 base_low s sound = go s.aerodrome.objective
   where
     small : All HasSmallDelay s.active
     small = small_delays s.closures s.active sound.flights sound.frozen_open
 
-    go : (o : Objective) → frozen_cost o (frozen_landings s) + 17279900 * length
-        (waiting s) ≤ 17279900 * length s.active
+    go : (o : Objective) → frozen_cost o (frozen_landings s) + dearest_landing * length
+        (waiting s) ≤ dearest_landing * length s.active
     go Makespan = omega (arith, all_low s.active small)
     go Delay = let a = all_low s.active small in omega (arith, delay_is s.active)

@@ -9,6 +9,7 @@ use Rattle.std.proofs.lemmas.List.Elements.{All-filter}
 use Rattle.std.proofs.lemmas.List.Sorted.{All-permutation}
 use Rattle.std.proofs.lemmas.Map.Keys.{Less-from_sorted}
 use Rattle.std.proofs.lemmas.Slice.Zip.{AllZip-long}
+use Rattle.cps_base.specs.Limits.{greatest_k, latest_horizon}
 use Rattle.precedence.specs.Pairs.{MustPrecede}
 use Rattle.wake_table.specs.Table.{IsWakeTable}
 use Rattle.landing_rules.specs.Flights.{Aerodrome, Active, Span, Situation, waiting, is_waiting, horizon}
@@ -107,7 +108,7 @@ module _ (s : Situation) (h : Head) (ws : List waits.Waiting) (pairs : List ℕ)
       sym (get_or-map key_of _ k d (key_of d) lt) ∙ ap (λ l. get_or l k (key_of d)) keys
       ∙ get_or-map arrival_of R k nobody (key_of d) (omega arith)
 
-  pub well_formed : h.k ≤ 3 → h.horizon ≤ 179999 → IsWellFormed (seen_problem h ws pairs)
+  pub well_formed : h.k ≤ greatest_k → h.horizon ≤ latest_horizon → IsWellFormed (seen_problem h ws pairs)
   well_formed few near = record {
     table = subst IsWakeTable (sym table_is) sound.table;
     few_places = few;

@@ -1,6 +1,7 @@
 // The problem of a situation.
 ghost use Rattle.std.specs.Prelude.{◌≡◌, ◌≤◌, IfOk};
 ghost use Rattle.std.specs.Option.{ForSome};
+ghost use Rattle.cps_base.specs.Limits.{greatest_k, latest_horizon};
 ghost use Rattle.landing_rules.specs.Flights.{horizon};
 ghost use Rattle.landing_rules.specs.Events.{frozen_landings};
 ghost use Rattle.landing_rules.specs.Problem.{IsProblemOf, frozen_cost};
@@ -45,8 +46,8 @@ fn head(situation: &View<'_>, flights: &[Active], last: Option<(u32, Category)>)
     ensures last { result.last ≡ last }
     ensures base { result.base ≡ frozen_cost situation.now.aerodrome.objective
         (frozen_landings situation.now) }
-    ensures few_places { result.k ≤ 3 }
-    ensures near { result.horizon ≤ 179999 }
+    ensures few_places { result.k ≤ greatest_k }
+    ensures near { result.horizon ≤ latest_horizon }
 {
     let fixed = situation.fixed();
     Head {

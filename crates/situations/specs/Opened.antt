@@ -2,7 +2,7 @@
 use Rattle.std.specs.Prelude.{◌≢◌, ◌≤◌, ℕ, List, length, map, All, AllPairs, IsTrue}
 use Rattle.cps_base.specs.Text.{is_callsign}
 use Rattle.landing_rules.specs.Flights.{Active, Aerodrome, Callsign, Flight, Situation}
-use Rattle.cps_base.specs.Limits.{greatest_weight, most_flights}
+use Rattle.cps_base.specs.Limits.{greatest_weight, most_flights, most_predecessors}
 use Rattle.landing_rules.specs.Rules.{last_second}
 use Rattle.landing_rules.specs.Sound.{AreGoodWindows}
 use Rattle.landing_rules.specs.Events.{Opening, newcomer, opening_situation}
@@ -43,7 +43,7 @@ opened a fs = opening_situation (opening_of a) (map flight_of fs)
 pub record IsKept (f : Flight) : Type 0 where
   pub callsign : IsTrue (is_callsign f.callsign)
   pub windows : AreGoodWindows f.windows
-  pub after : length f.after ≤ 4
+  pub after : length f.after ≤ most_predecessors
 
 pub record HasRanges (f : files.Flight) : Type 0 where
   pub eta : f.eta ≤ last_second

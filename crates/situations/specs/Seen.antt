@@ -2,7 +2,7 @@
 use Rattle.std.specs.Prelude.{◌≡◌, ◌≢◌, ◌≤◌, ℕ, List, Option, AllPairs, map, ⊤, MatchOption}
 use Rattle.indexmap.specs.IndexMap.{IndexMap, keys, values}
 use Rattle.landing_rules.specs.Flights as rules
-use Rattle.cps_base.specs.Limits.{longest_freeze}
+use Rattle.cps_base.specs.Limits.{greatest_k, longest_freeze}
 use Rattle.landing_rules.specs.Rules.{last_second}
 use Rattle.situations.specs.declared.situation.Fixed.{Fixed}
 use Rattle.situations.specs.declared.situation.Situation.TheInside.{Inside}
@@ -30,7 +30,7 @@ seen s = situation_of s.fixed (values s.active) s.closures s.clock
 -- each flight stands under its own callsign, and the numbers are in their ranges
 pub record IsInStep (s : Inside) : Type 0 where
   pub keyed : AreKeyed s.active
-  pub few_places : s.fixed.k ≤ 3
+  pub few_places : s.fixed.k ≤ greatest_k
   pub short_freeze : s.fixed.freeze ≤ longest_freeze
   pub clock : MatchOption s.clock ⊤ (λ now. now ≤ last_second)
 
@@ -39,6 +39,6 @@ viewed v = situation_of v.fixed.now v.flights.now v.closures.now v.clock
 
 -- the numbers are in their ranges
 pub record IsViewInStep (v : view.Inside) : Type 0 where
-  pub few_places : v.fixed.now.k ≤ 3
+  pub few_places : v.fixed.now.k ≤ greatest_k
   pub short_freeze : v.fixed.now.freeze ≤ longest_freeze
   pub clock : MatchOption v.clock ⊤ (λ now. now ≤ last_second)

@@ -1,7 +1,7 @@
 ghost use Rattle.std.specs.Prelude.{◌≡◌, ◌≤◌, [], All, IfOk, None, length, map};
 ghost use Rattle.wake_table.specs.Table.{IsWakeTable};
 ghost use Rattle.landing_rules.specs.Flights.{horizon};
-ghost use Rattle.cps_base.specs.Limits.{longest_freeze, most_closures};
+ghost use Rattle.cps_base.specs.Limits.{greatest_k, latest_horizon, longest_freeze, most_closures};
 ghost use Rattle.landing_rules.specs.Sound.{IsSound};
 ghost use Rattle.arrivals.specs.Seen.{flight_of};
 ghost use Rattle.arrivals.specs.Aerodromes.{IsInRange};
@@ -15,7 +15,7 @@ ghost use Rattle.situations.specs.Seen.{AreKeyed, fixed_of};
 use crate::by_callsign::by_callsign;
 use crate::{Active, View};
 use arrivals::{Aerodrome, Flight, FrozenLanding, PassedCount};
-use cps_base::{Callsign, MOST_CLOSURES};
+use cps_base::{Callsign, MOST_CLOSURES, MOST_PREDECESSORS, MOST_WINDOWS};
 use indexmap::IndexMap;
 use landing_rules::Objective;
 use landing_windows::Closures;
@@ -136,7 +136,7 @@ impl Situation {
     /// What the aerodrome fixes.
     pub fn fixed(&self) -> &Fixed
         ensures value { self.now.aerodrome ≡ fixed_of result.now }
-        ensures few_places { result.now.k ≤ 3 }
+        ensures few_places { result.now.k ≤ greatest_k }
         ensures short_freeze { result.now.freeze ≤ longest_freeze }
     {
         &self.fixed
@@ -166,7 +166,7 @@ impl Situation {
     /// The second before which no waiting flight may land: 0 without a clock second, and else at most 179,999.
     pub fn horizon(&self) -> u32
         ensures value { result ≡ horizon self.now }
-        ensures near { result ≤ 179999 }
+        ensures near { result ≤ latest_horizon }
     {
         match self.clock {
             None => 0,
@@ -180,8 +180,8 @@ fn known(flight: &Flight)
     ensures { IsKept (flight_of flight.now) }
 {
     prove!(flight.callsign.bytes().len() >= 2);
-    prove!(flight.windows.spans().len() <= 4);
-    prove!(flight.after.len() <= 4);
+    prove!(flight.windows.spans().len() <= MOST_WINDOWS);
+    prove!(flight.after.len() <= MOST_PREDECESSORS);
 }
 
 // What they keep of each flight.

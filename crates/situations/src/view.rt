@@ -1,6 +1,6 @@
 ghost use Rattle.std.specs.Prelude.{◌≡◌, ◌≤◌, ⊤, MatchOption};
 ghost use Rattle.landing_rules.specs.Flights.{horizon};
-ghost use Rattle.cps_base.specs.Limits.{longest_freeze};
+ghost use Rattle.cps_base.specs.Limits.{greatest_k, latest_horizon, longest_freeze};
 ghost use Rattle.landing_rules.specs.Rules.{last_second};
 ghost use Rattle.situations.specs.Seen.{fixed_of, situation_of};
 
@@ -36,7 +36,7 @@ impl<'a> View<'a> {
         closures: &'a Closures,
         clock: Option<u32>,
     ) -> View<'a>
-        requires few_places { fixed.now.k ≤ 3 }
+        requires few_places { fixed.now.k ≤ greatest_k }
         requires short_freeze { fixed.now.freeze ≤ longest_freeze }
         requires clock { MatchOption clock ⊤ (λ now. now ≤ last_second) }
         ensures { result ≡ situation_of fixed.now flights.now closures.now clock }
@@ -52,7 +52,7 @@ impl<'a> View<'a> {
     /// What the aerodrome fixes.
     pub fn fixed(&self) -> &Fixed
         ensures value { self.now.aerodrome ≡ fixed_of result.now }
-        ensures few_places { result.now.k ≤ 3 }
+        ensures few_places { result.now.k ≤ greatest_k }
         ensures short_freeze { result.now.freeze ≤ longest_freeze }
     {
         self.fixed
@@ -75,7 +75,7 @@ impl<'a> View<'a> {
     /// The second before which no waiting flight may land: 0 without a clock second, and else at most 179,999.
     pub fn horizon(&self) -> u32
         ensures value { result ≡ horizon self.now }
-        ensures near { result ≤ 179999 }
+        ensures near { result ≤ latest_horizon }
     {
         match self.clock {
             None => 0,

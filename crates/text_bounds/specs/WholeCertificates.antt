@@ -3,7 +3,7 @@ use Rattle.std.specs.Prelude.{ℕ, zero, suc, ◌*◌, ◌<◌, ◌≤◌, lengt
 use Rattle.landing_rules.specs.declared.objective.Objective.{Objective}
 use Rattle.landing_rules.specs.declared.objective.Objective.TheVariants.{Makespan, Delay}
 use Rattle.landing_rules.specs.Flights.{Situation}
-use Rattle.cps_base.specs.Limits.{most_open_seconds, most_waiting}
+use Rattle.cps_base.specs.Limits.{greatest_k, most_open_seconds, most_waiting}
 use Rattle.landing_rules.specs.Problem.{IsProblemOf, Problem}
 use Rattle.landing_rules.specs.Sound.{IsSound}
 use Rattle.cps_problem.specs.WellFormed.{IsWellFormed}
@@ -30,7 +30,7 @@ WholeCertificateIsBoundedLaw = (s : Situation) (p : Problem) (c : Cert) → IsSo
 -- with so many waiting flights each certificate is one that `check` loads: for the makespan always, for delay always
 -- with no shift, with up to 32 flights with a shift of one place, and with up to 7 with a shift of two
 abbrev pub IsLoadable : Objective → ℕ → ℕ → Type 0
-IsLoadable Makespan k n = (k ≤ 3) × (n ≤ most_waiting)
+IsLoadable Makespan k n = (k ≤ greatest_k) × (n ≤ most_waiting)
 IsLoadable Delay zero n = n ≤ most_waiting
 IsLoadable Delay (suc zero) n = n ≤ 32
 IsLoadable Delay (suc (suc zero)) n = n ≤ 7

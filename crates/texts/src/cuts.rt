@@ -25,9 +25,9 @@ pub fn first_part(text: &[u8], mark: u8) -> (&[u8], Option<&[u8]>)
     }
 }
 
-/// Whether more than four parts stand round the marks.
-pub fn has_many_parts(text: &[u8], mark: u8) -> bool
-    ensures { result ≡ nat_lt 4 (length (parts mark text.now)) }
+/// Whether more parts than `most` stand round the marks.
+pub fn has_more_parts(text: &[u8], mark: u8, most: usize) -> bool
+    ensures { result ≡ nat_lt most (length (parts mark text.now)) }
 {
-    count_marks(text, mark) > 3
+    count_marks(text, mark) >= most
 }

@@ -1,5 +1,6 @@
 // The aerodrome of a trial.
 ghost use Rattle.std.specs.Prelude.{◌≡◌, ◌≤◌};
+ghost use Rattle.cps_base.specs.Limits.{greatest_k};
 ghost use Rattle.arrivals.specs.Aerodromes.{IsInRange};
 ghost use Rattle.traffic_gen.specs.Sample.{sample_table, aerodrome_with};
 
@@ -22,7 +23,7 @@ fn sample_table() -> PairTable
 
 // The aerodrome with this bound on shifts.
 pub(crate) fn aerodrome_with(alloc: Global, k: u8) -> Aerodrome
-    requires { k ≤ 3 }
+    requires { k ≤ greatest_k }
     ensures value { result ≡ aerodrome_with k }
     ensures range { IsInRange result }
 {

@@ -1,5 +1,5 @@
 ghost use Rattle.std.specs.Prelude.{◌≡◌, ◌≤◌, IfOk, length};
-ghost use Rattle.cps_base.specs.Limits.{most_waiting};
+ghost use Rattle.cps_base.specs.Limits.{greatest_k, most_waiting};
 ghost use Rattle.arrivals.specs.Aerodromes.{IsInRange};
 ghost use Rattle.arrivals.specs.Flights.{AreArrivals};
 ghost use Rattle.traffic_gen.specs.Made.{traffic};
@@ -40,7 +40,7 @@ impl Traffic {
 #[tactic(auto, using(crate::proofs::Arrivals::can_be_read, crate::proofs::Arrivals::flights_length))]
 pub fn generate(alloc: Global, seed: u64, n: u8, k: u8) -> Result<Traffic, AllocError>
     requires count { (1 ≤ n) × (n ≤ most_waiting) }
-    requires shifts { k ≤ 3 }
+    requires shifts { k ≤ greatest_k }
     ensures value { IfOk result (λ t. t ≡ traffic seed n k) }
     ensures range { IfOk result (λ t. IsInRange t.aerodrome) }
     ensures of_file { IfOk result (λ t. AreArrivals t.flights) }

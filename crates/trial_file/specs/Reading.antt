@@ -1,6 +1,7 @@
 -- The trials of a file, or the first fault of its first record that has one, over the records that `csv` reads.
 use Rattle.std.specs.Prelude.{ℕ, List, [], ◌∷◌, ◌++◌, Bool, not, ◌==◌, ◌&&◌, ◌+◌, nat_le, length, codes, bytes_eq}
 use Rattle.std.specs.Prelude.{Result, Ok, Err, if◌then◌else◌}
+use Rattle.cps_base.specs.Limits.{greatest_k}
 use Rattle.cps_base.specs.Answers.{fault_as, ok_map, ◌>>=◌}
 use Rattle.csv_records.specs.Rows.{Fields, field, records_of}
 use Rattle.cps_base.specs.Number.{number_within}
@@ -19,7 +20,7 @@ is_header r = (length r == 2 && bytes_eq (field r 0) (codes "kind")) && bytes_eq
 
 -- a number from 0 to 3 is another limit of shift
 abbrev pub shift_in : List ℕ → Result Trial TrialCause
-shift_in text = ok_map Shift (fault_as (λ e. cause.Value (field_cause.Number e)) (number_within text 0 3))
+shift_in text = ok_map Shift (fault_as (λ e. cause.Value (field_cause.Number e)) (number_within text 0 greatest_k))
 
 -- a span, as that of an event, is one closure more
 abbrev pub close_in : List ℕ → Result Trial TrialCause

@@ -7,7 +7,7 @@ ghost use Rattle.trial_file.specs.Reading.{is_header, shift_in, close_in, trial_
 
 use crate::fault::{TrialCause, TrialFault};
 use crate::trial::Trial;
-use cps_base::read_number;
+use cps_base::{GREATEST_K, read_number};
 use csv::ByteRecord;
 use csv_records::{Records, field};
 use event_log::{FieldCause, read_span};
@@ -29,7 +29,7 @@ fn shift_in(text: &[u8]) -> Result<Trial, TrialCause>
     ensures value { result ≡ shift_in text.now }
     ensures good { IfOk result IsGood }
 {
-    match read_number(text, 0, 3) {
+    match read_number(text, 0, GREATEST_K as u64) {
         Ok(k) => Ok(Trial::Shift(k as u8)),
         Err(fault) => Err(TrialCause::Value(FieldCause::Number(fault))),
     }

@@ -2,6 +2,7 @@
 use Rattle.std.proofs.Common.{◌≡◌, ℕ, zero, suc, ◌+◌, ◌≤◌, List, [], ◌∷◌, Option, Some, None, Bool, true, false, refl}
 use Rattle.std.proofs.Common.{sym, subst, arith}
 use Rattle.std.specs.Prelude.{All, ◌&&◌, nat_lt, option_map, if◌then◌else◌, Result, Ok, Err, IfOk}
+use Rattle.cps_base.specs.Limits.{greatest_k}
 use Rattle.landing_rules.specs.declared.objective.Objective.{Objective}
 use Rattle.landing_rules.specs.declared.objective.Objective.TheVariants.{Makespan, Delay}
 use Rattle.arrivals.specs.declared.aerodrome.Aerodrome as aerodromes
@@ -41,7 +42,7 @@ none_above k n (p ∷ ps) e zero d lt = (not_above k n p (first_above k (n + 1) 
 none_above k n (p ∷ ps) e (suc i) d lt =
     none_above k (n + 1) ps (not_above k n p (first_above k (n + 1) ps) e).1 i d (omega (arith, lt))
 
-module _ (a : aerodromes.Aerodrome) (fs : List files.Flight) (k : ℕ) (few : k ≤ 3)
+module _ (a : aerodromes.Aerodrome) (fs : List files.Flight) (k : ℕ) (few : k ≤ greatest_k)
     (accepted : shift_refusal a k ≡ None) where
   in_range : IsInRange a → IsInRange (record a { k = k })
   in_range r =

@@ -1,6 +1,7 @@
 //! The outcomes of trials.
 
 ghost use Rattle.std.specs.Prelude.{◌≤◌, ◌<◌, ◌+◌, All, IfOk, length};
+ghost use Rattle.cps_base.specs.Limits.{greatest_k};
 ghost use Rattle.landing_rules.specs.Rules.{last_second};
 ghost use Rattle.cps_problem.specs.Plans.{IsWithinShift};
 ghost use Rattle.landing_rules.specs.Sound.{IsSound};
@@ -59,7 +60,7 @@ fn with_shift(
     k: u8,
 ) -> Result<Outcome, AllocError>
     requires opens { IsOpenable aerodrome.now flights.now }
-    requires few { k ≤ 3 }
+    requires few { k ≤ greatest_k }
     ensures { IfOk result (IsOutcomeOf aerodrome.now flights.now (Shift k)) }
 {
     if let Some(refusal) = shift_refusal(aerodrome, k) {

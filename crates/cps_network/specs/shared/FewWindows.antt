@@ -10,7 +10,7 @@ use Rattle.cps_nodes.specs.Windows.{IsWidth, IsWindow, offset_at}
 use Rattle.cps_nodes.specs.WindowOrder.{window_cmp}
 use Rattle.cps_theory.specs.WindowLists.{DistinctLists, InLists, Sized, raised}
 use Rattle.cps_theory.specs.laws.NumberOfWindows.{few_lists}
-use Rattle.cps_network.specs.Lists.{IsAscending, AreWindows, node_at}
+use Rattle.cps_network.specs.Lists.{AreWindows, IsAscending, most_in_a_stage, node_at}
 use Rattle.cps_network.specs.shared.OneDue.{never_both}
 
 -- an offset of at most k places, forward or back
@@ -74,7 +74,7 @@ pub few_windows : (w : ℕ) (windows : List (List ℤ)) → IsAscending windows 
     → length windows ≤ w ^ w
 few_windows w windows up vs = grind (arith, length-map, few_lists, all_sized, different)
 
-power_low : (w : ℕ) → IsWidth w → w ^ w ≤ 823543
+power_low : (w : ℕ) → IsWidth w → w ^ w ≤ most_in_a_stage
 power_low w is = elim (cases_eq w 1) [
   | inl e ↦ grind arith
   | inr not_one ↦ elim (cases_eq w 3) [
@@ -87,7 +87,7 @@ power_low w is = elim (cases_eq w 1) [
 ]
 
 pub number_low : (w : ℕ) (windows : List (List ℤ)) → IsAscending windows → AreWindows w windows
-    → length windows ≤ 823543
+    → length windows ≤ most_in_a_stage
 number_low w [] up vs = omega arith
 number_low w (x ∷ xs) up vs =
     omega (arith, few_windows w (x ∷ xs) up vs, power_low w (vs 0 (omega arith)).is_width)

@@ -7,7 +7,7 @@ use Rattle.std.proofs.lemmas.List.Sums.{sum_by-cons}
 use Rattle.landing_rules.specs.declared.objective.Objective.{Objective}
 use Rattle.landing_rules.specs.declared.objective.Objective.TheVariants.{Makespan, Delay}
 use Rattle.landing_rules.specs.Flights.{Active, Landing, Schedule, landing, landings}
-use Rattle.cps_base.specs.Limits.{greatest_value, greatest_weight, most_flights}
+use Rattle.cps_base.specs.Limits.{dearest_landing, greatest_value, greatest_weight, most_flights}
 use Rattle.landing_rules.specs.Rules.{cost, delay, greatest, last_second}
 use Rattle.landing_rules.specs.Sound.{IsGoodFlight}
 use Rattle.plan_file.specs.shared.Landings.{length_landings}
@@ -24,10 +24,10 @@ greatest_low (f ∷ all) h =
     let rest = greatest_low all (All-tail IsLight f all h) in
     omega (arith, here, rest)
 
-product_low : (w s : ℕ) → w ≤ 100 → s ≤ last_second → w * s ≤ 17279900
+product_low : (w s : ℕ) → w ≤ greatest_weight → s ≤ last_second → w * s ≤ dearest_landing
 product_low w s p q = grind (arith, common_steps)
 
-delays_low : (all : List Landing) → All IsLight all → sum_by delay all ≤ 17279900 * length all
+delays_low : (all : List Landing) → All IsLight all → sum_by delay all ≤ dearest_landing * length all
 delays_low [] h = omega arith
 delays_low (f ∷ all) h =
     let own = All-head IsLight f all h in

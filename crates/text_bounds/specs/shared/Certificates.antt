@@ -7,6 +7,7 @@ use Rattle.std.proofs.lemmas.Bool.Decides.{nat_tests}
 use Rattle.std.proofs.lemmas.Fmt.{length-decimal-le}
 use Rattle.std.proofs.lemmas.List.{length-append, length-map}
 use Rattle.std.proofs.lemmas.List.Sums.{sum_by-cons}
+use Rattle.cps_base.specs.Limits.{greatest_word}
 use Rattle.certificate.specs.declared.certificate.Claim.{Claim}
 use Rattle.certificate.specs.declared.certificate.Claim.TheVariants.{Optimal, Infeasible}
 use Rattle.certificate.specs.Patterns.{is_pattern_length}
@@ -40,9 +41,9 @@ pattern_short (d ∷ ds) e = omega (arith, pattern_few (length (d ∷ ds)) e, le
 
 pair_short : (p : Pair) → is_pair p ≡ true → length (pair_text p) ≤ 17
 pair_short p h =
-    let both = and_parts (is_second p.0) (nat_le p.1 4294967295) h in
+    let both = and_parts (is_second p.0) (nat_le p.1 greatest_word) h in
     let t : p.0 ≤ last_second = grind (arith, nat_tests, both.0) in
-    let c : p.1 ≤ 4294967295 = grind (arith, nat_tests, both.1) in
+    let c : p.1 ≤ greatest_word = grind (arith, nat_tests, both.1) in
     let b = length-decimal-le 10 p.1 (omega arith) (omega (arith, c)) (omega (arith, c)) in
     omega (arith, second_short p.0 t, b, length-append (decimal p.0) (58 ∷ decimal p.1))
 

@@ -4,6 +4,7 @@ use Rattle.std.proofs.lemmas.Iterator.{YieldsList-from_slice}
 use Rattle.std.proofs.lemmas.Iterator.Adapters.{serves_from_places}
 use Rattle.std.proofs.lemmas.Iterator.Consumers.{YieldsList-from_enumerate}
 use Rattle.std.proofs.lemmas.List.FromFn.{length-enumerate_from, get_or-enumerate_from}
+use Rattle.cps_base.specs.Limits.{greatest_word}
 use Rattle.certificate.specs.States.{State}
 use Rattle.landing_rules.specs.Problem.{Problem}
 use Rattle.cps_theory.specs.FirstFound.{with_number}
@@ -28,7 +29,7 @@ find_map-requires-clause-callable c =
     (λ x q k. search (rules, tests)) (λ x k lt e.
     let below : k < length ss = omega (arith, length-enumerate_from 0 ss, lt) in
     let there = e ∙ get_or-enumerate_from 0 ss k (x.0, x.1.now) below in
-    let few : x.0 < 4294967295 = omega (arith, ap (λ s. s.0) there, below, c.requires.few) in
+    let few : x.0 < greatest_word = omega (arith, ap (λ s. s.0) there, below, c.requires.few) in
     let shaped = ap (λ s. is_misshapen p s.1) there
     ∙ each_fails (is_misshapen p) 1 ss c.requires.shaped k x.1.now below in
     search (rules, few, shaped))

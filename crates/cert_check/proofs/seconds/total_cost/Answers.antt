@@ -5,6 +5,7 @@ use Rattle.std.specs.List.{range_with_len}
 use Rattle.std.proofs.lemmas.Iterator.{YieldsList-from_map, YieldsList-from_range}
 use Rattle.std.proofs.lemmas.Iterator.Consumers.{sum_by_from_yields_List, fits_by_from_yields_list}
 use Rattle.std.proofs.lemmas.List.Sums.{sum_by-cons}
+use Rattle.cps_base.specs.Limits.{dearest_landing}
 use Rattle.cps_theory.specs.Feasible.{total}
 use Rattle.cps_theory.specs.RankLists.{upto}
 use Rattle.landing_joint.specs.RankedProblem.{cost_at}
@@ -14,9 +15,9 @@ use Rattle.cert_check.proofs.seconds.total_cost.Goals as goal
 
 -- a cost, which is at most this
 abbrev small : (ℕ → ℕ) → ℕ → ℕ
-small cost r = min (cost r) 17279900
+small cost r = min (cost r) dearest_landing
 
-small_sum : (cost : ℕ → ℕ) (n a : ℕ) → sum_by (small cost) (range_with_len a n) ≤ 17279900 * n
+small_sum : (cost : ℕ → ℕ) (n a : ℕ) → sum_by (small cost) (range_with_len a n) ≤ dearest_landing * n
 small_sum cost zero a = omega arith
 small_sum cost (suc n) a =
     omega (arith, sum_by-cons (small cost) a (range_with_len (a + 1) n), small_sum cost n (a + 1))

@@ -1,4 +1,5 @@
 use Rattle.std.proofs.Common.{◌≡◌, ◌+◌, ◌≤◌, ◌++◌, map, length}
+use Rattle.chart.specs.Rows.{most_rows}
 use Rattle.audit.specs.Findings.{finding_of}
 use Rattle.chart.specs.Elements.{labels_drawn}
 use Rattle.chart.proofs.labels.add_labels.Given as goal
@@ -8,7 +9,7 @@ abbrev pub invariant-loop-rest : goal.invariant-loop-rest
 invariant-loop-rest l =
     (l.all.items ++ labels_drawn l.active l.rows l.lines (map finding_of l.found) l.n l.rest
     ≡ l.fn.all.items ++ labels_drawn l.active l.rows l.lines (map finding_of l.found) 0 l.rows)
-    × (l.n + length l.rest ≤ 1000)
+    × (l.n + length l.rest ≤ most_rows)
 
 abbrev pub decreases-loop-rest : goal.decreases-loop-rest
 decreases-loop-rest l = length l.rest

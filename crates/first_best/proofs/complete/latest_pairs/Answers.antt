@@ -1,13 +1,14 @@
 use Rattle.std.proofs.Common.{◌≡◌, ℕ, ◌+◌, ◌-◌, ◌*◌, ◌<◌, ◌≤◌, length, Option, Some, arith}
 use Rattle.std.specs.Prelude.{IfSome}
+use Rattle.cps_base.specs.Limits.{dearest_landing}
 use Rattle.landing_rules.specs.Problem.{Problem}
 use Rattle.landing_rules.specs.Rules.{last_second}
 use Rattle.first_best.proofs.ScanLemmas.{cheaper, no_cheaper, nothing_here, scanned_all, scanned_free}
 use Rattle.first_best.proofs.complete.latest_pairs.Goals as goal
 
 is_small : (p : Problem) (stage : ℕ) (o : Option ℕ) (cost : ℕ)
-    → IfSome o (λ d. d ≤ 17279900 * (length p.flights - stage)) → o ≡ Some cost
-    → cost ≤ 17279900 * (length p.flights - stage)
+    → IfSome o (λ d. d ≤ dearest_landing * (length p.flights - stage)) → o ≡ Some cost
+    → cost ≤ dearest_landing * (length p.flights - stage)
 is_small p stage o cost small e = rw e at small
 
 pub returns-then-least-eq0 : goal.returns-then-least-eq0

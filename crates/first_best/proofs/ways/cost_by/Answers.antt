@@ -1,4 +1,5 @@
 use Rattle.std.proofs.Common.{◌+◌, ◌-◌, ◌*◌, ◌≤◌, length, sym, ◌∙◌, arith}
+use Rattle.cps_base.specs.Limits.{dearest_landing}
 use Rattle.first_best.proofs.WayLemmas.{too_late, way_cost}
 use Rattle.first_best.proofs.ways.cost_by.Goals as goal
 
@@ -9,7 +10,7 @@ returns-in_err-rest-clause-least c =
 
 -- the cost and the rest, which is that of a pair in reach
 in_reach : (c : goal.After-cost)
-    → c.cost.result + c.in_ok-rest.rest ≤ 17279900 * (length c.args.problem.now.flights - c.args.stage)
+    → c.cost.result + c.in_ok-rest.rest ≤ dearest_landing * (length c.args.problem.now.flights - c.args.stage)
 in_reach c =
     let rest = c.in_ok-rest.ensures.0 in
     let left = length c.args.problem.now.flights - c.args.stage - 1 in

@@ -1,10 +1,11 @@
 use Rattle.std.proofs.Common.{◌≡◌, ◌+◌, ◌*◌, ◌<◌, ◌≤◌, rules, arith, sym, ap, ◌∙◌}
+use Rattle.cps_base.specs.Limits.{greatest_k}
 use Rattle.replan.proofs.StageLemmas.{read_held}
 use Rattle.replan.proofs.kept.Kept.node.Goals as goal
 
 pub node-requires : goal.node-requires
 node-requires g c =
-    let near : c.held.inside.problem.k ≤ 3 = c.len-few.ensures.well_formed.few_places in
+    let near : c.held.inside.problem.k ≤ greatest_k = c.len-few.ensures.well_formed.few_places in
     let width : g.row.W ≡ 2 * c.held.inside.problem.k + 1 = c.held.invariant.width_is in
     let narrow : g.row.W < 8 = omega arith in
     let same = sym (ap (λ h. h.stages) c.held.view_is) in
