@@ -12,31 +12,16 @@ ghost use Rattle.wake_table.specs.declared.category.Category.{Category};
 
 use crate::column::NO_LABEL;
 use cps_problem::Problem;
-use wake_table::{Category, PairTable};
+use wake_table::{CATEGORY_COUNT, Category, Row};
 
 // A rank, the separations at which it lands behind each category, and the span of open seconds that was found last for it, when
 // it was ready at `from`. Rank 0 stands for none.
 #[derive(Clone, Copy)]
 pub(crate) struct Follower {
     pub(crate) rank: u8,
-    pub(crate) separations: [u32; 6],
+    pub(crate) separations: Row,
     pub(crate) from: u32,
     pub(crate) open: (u32, u32),
-}
-
-// The separations of a follower behind each category, in letter order.
-fn separations_behind(table: &PairTable, follower: Category) -> [u32; 6]
-    ensures { (leader : Category) → slice_index result (place leader)
-        ≡ separation table.now leader follower }
-{
-    [
-        table.sep(Category::A, follower),
-        table.sep(Category::B, follower),
-        table.sep(Category::C, follower),
-        table.sep(Category::D, follower),
-        table.sep(Category::E, follower),
-        table.sep(Category::F, follower),
-    ]
 }
 
 // Where a rank stands among the followers of a stage: those that land last in its windows are less than eight apart.
@@ -70,7 +55,7 @@ impl Follower {
     {
         Follower {
             rank: 0,
-            separations: [0; 6],
+            separations: [0; CATEGORY_COUNT],
             from: 1,
             open: (0, 0),
         }
@@ -85,7 +70,7 @@ impl Follower {
         let category = problem.flight(rank).category;
         Follower {
             rank,
-            separations: separations_behind(&problem.head().table, category),
+            separations: problem.head().table.separations_behind(category),
             from: 1,
             open: (0, 0),
         }
@@ -98,7 +83,7 @@ impl Follower {
             → result ≡ separation p.table leader
             (of_rank no_waiting p.flights self.now.rank).category }
     {
-        self.separations[leader as usize]
+        self.separations[leader.place()]
     }
 
     // The label of a window in which its rank lands last, where that is ready at a second: the second at which it lands then, or

@@ -1,6 +1,6 @@
 -- What it says of every category that nothing is found among the pairs, or among the triples, of all of them.
-use Rattle.std.proofs.Common.{Ok, option_map, ◌≡◌, ℕ, ◌+◌, ◌≤◌, List, [], ◌∷◌, ◌++◌, map, Option, Some, None, Bool}
-use Rattle.std.proofs.Common.{true, false, cond, find, arith, ◌∙◌, sym, ap, refl}
+use Rattle.std.proofs.Common.{Ok, option_map, ◌≡◌, ℕ, zero, suc, ◌+◌, ◌≤◌, ◌<◌, List, [], ◌∷◌, ◌++◌, map, length, get_or}
+use Rattle.std.proofs.Common.{Option, Some, None, Bool, true, false, cond, find, arith, ◌∙◌, sym, ap, subst, refl}
 use Rattle.std.specs.Option.{option_or}
 use Rattle.std.specs.List.{flat_map, AllByRecursion}
 use Rattle.std.proofs.lemmas.List.Concat.{flat_map-append}
@@ -8,19 +8,22 @@ use Rattle.std.proofs.lemmas.List.Folds.{find-append, flat_map-map}
 use Rattle.std.proofs.lemmas.Grind.{common_steps}
 use Rattle.wake_table.specs.declared.category.Category.{Category}
 use Rattle.wake_table.specs.declared.table.TableFault.{TableFault}
-use Rattle.wake_table.specs.declared.category.Category.TheVariants.{A, B, C, D, E, F}
-use Rattle.wake_table.specs.Letters.{letters}
+use Rattle.wake_table.specs.Letters.{letters, place, category_count}
 use Rattle.wake_table.specs.Table.{separation, pairs_from, pairs, triples_from, triples, is_out_of_range}
 use Rattle.wake_table.specs.Table.{breaks_triangle, range_fault, triangle_fault, first_fault, ok_without, table_of}
 
+-- each category stands at its place
+at_place : (c d : Category) → (place c < category_count) × (get_or letters (place c) d ≡ c)
+at_place c d = grind (arith, common_steps)
+
+at : {X : Type 0} (P : X → Type 0) (xs : List X) → AllByRecursion P xs → (i : ℕ) (d : X) → i < length xs → P (get_or xs i d)
+at P [] h i d below = absurd (omega (arith, below))
+at P (x ∷ xs) h zero d below = h.0
+at P (x ∷ xs) h (suc i) d below = at P xs h.1 i d (omega (arith, below))
+
 -- of each category what is so of all the letters
-at : (P : Category → Type 0) → AllByRecursion P letters → (c : Category) → P c
-at P h A = h.0
-at P h B = h.1.0
-at P h C = h.1.1.0
-at P h D = h.1.1.1.0
-at P h E = h.1.1.1.1.0
-at P h F = h.1.1.1.1.1.0
+of_each : (P : Category → Type 0) → AllByRecursion P letters → (c : Category) → P c
+of_each P h c = let here = at_place c c in subst P here.1 (at P letters h (place c) c here.0)
 
 both_none : {X : Type 0} (x y : Option X) → option_or x y ≡ None → (x ≡ None) × (y ≡ None)
 both_none None y e = (refl, e)
@@ -45,11 +48,11 @@ along_items p f (c ∷ cs) e = let none = fails_and_none (p (f c)) (f c) (find p
 -- where nothing is found in the lists of all categories, one behind the other, nothing is found in any of them
 in_list : {X : Type 0} (p : X → Bool) (f : Category → List X) → find p (flat_map f letters) ≡ None
     → (c : Category) → find p (f c) ≡ None
-in_list p f e = at (λ c. find p (f c) ≡ None) (along_lists p f letters e)
+in_list p f e = of_each (λ c. find p (f c) ≡ None) (along_lists p f letters e)
 
 in_item : {X : Type 0} (p : X → Bool) (f : Category → X) → find p (map f letters) ≡ None → (c : Category)
     → p (f c) ≡ false
-in_item p f e = at (λ c. p (f c) ≡ false) (along_items p f letters e)
+in_item p f e = of_each (λ c. p (f c) ≡ false) (along_items p f letters e)
 
 twice : {X Y : Type 0} (g : X → List Y) (f : Category → List X) (cs : List Category)
     → flat_map g (flat_map f cs) ≡ flat_map (λ c. flat_map g (f c)) cs

@@ -1,10 +1,14 @@
--- The six wake categories, in letter order.
-use Rattle.std.specs.Prelude.{ℕ, List, [], ◌∷◌, Option, Some, None, ◌==◌, if◌then◌else◌}
+-- The wake categories, in letter order.
+use Rattle.std.specs.Prelude.{ℕ, List, [], ◌∷◌, length, Option, Some, None, ◌==◌, if◌then◌else◌}
 use Rattle.wake_table.specs.declared.category.Category.{Category}
 use Rattle.wake_table.specs.declared.category.Category.TheVariants.{A, B, C, D, E, F}
 
 abbrev pub letters : List Category
 letters = A ∷ B ∷ C ∷ D ∷ E ∷ F ∷ []
+
+-- how many there are
+abbrev pub category_count : ℕ
+category_count = length letters
 
 -- the place of a category among them, from 0
 abbrev pub place : Category → ℕ
@@ -23,6 +27,10 @@ letter C = 67
 letter D = 68
 letter E = 69
 letter F = 70
+
+-- that letter as a text
+abbrev pub letter_text : Category → List ℕ
+letter_text c = letter c ∷ []
 
 -- the category with this letter
 abbrev pub with_letter : ℕ → Option Category

@@ -1,3 +1,3 @@
--- Letters: the six categories. Table: what a table of separations is.
+-- Letters: the categories. Table: what a table of separations is.
 pub mod Letters
 pub mod Table

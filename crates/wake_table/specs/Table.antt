@@ -1,5 +1,5 @@
 -- What a table of separations is, and the first fault of rows that are none.
-use Rattle.std.specs.Prelude.{ℕ, List, [], Bool, ◌||◌, ◌+◌, ◌≤◌, nat_lt, get_or, slice_index, map, find, Option, Some}
+use Rattle.std.specs.Prelude.{ℕ, List, [], ◌∷◌, Bool, ◌||◌, ◌+◌, ◌≤◌, nat_lt, get_or, slice_index, map, find, Option, Some}
 use Rattle.std.specs.Prelude.{None, option_map, Result, Ok, Err}
 use Rattle.std.specs.List.{flat_map}
 use Rattle.std.specs.Option.{option_or}
@@ -63,3 +63,14 @@ table_of rows = ok_without (first_fault rows) rows
 pub record IsWakeTable (rows : List (List ℕ)) : Type 0 where
   pub entries : (a b : Category) → (1 ≤ separation rows a b) × (separation rows a b ≤ greatest_separation)
   pub triangle : (a b c : Category) → separation rows a c ≤ separation rows a b + separation rows b c
+
+-- the sample table, in the RECAT-EU form: for each leader in letter order, the seconds of the followers in letter order
+abbrev pub sample_table : List (List ℕ)
+sample_table =
+    (90 ∷ 110 ∷ 120 ∷ 130 ∷ 140 ∷ 180 ∷ [])
+    ∷ (60 ∷ 90 ∷ 100 ∷ 110 ∷ 120 ∷ 160 ∷ [])
+    ∷ (60 ∷ 60 ∷ 60 ∷ 60 ∷ 100 ∷ 140 ∷ [])
+    ∷ (60 ∷ 60 ∷ 60 ∷ 60 ∷ 60 ∷ 120 ∷ [])
+    ∷ (60 ∷ 60 ∷ 60 ∷ 60 ∷ 60 ∷ 100 ∷ [])
+    ∷ (60 ∷ 60 ∷ 60 ∷ 60 ∷ 60 ∷ 60 ∷ [])
+    ∷ []

@@ -1,7 +1,7 @@
 ghost use Rattle.std.specs.Prelude.{◌≡◌, ◌<◌};
-ghost use Rattle.wake_table.specs.Letters.{letter, place, category_of};
+ghost use Rattle.wake_table.specs.Letters.{letter, letter_text, place, category_count, category_of};
 
-/// A wake category, from super heavy to light: the six of the RECAT-EU form.
+/// A wake category, from super heavy to light: those of the RECAT-EU form.
 #[derive(Clone, Copy, Debug, PartialEq, Eq, PartialOrd, Ord)]
 pub enum Category {
     /// Super heavy.
@@ -18,8 +18,11 @@ pub enum Category {
     F,
 }
 
+/// How many categories there are.
+pub const CATEGORY_COUNT: usize = 6;
+
 /// The categories in letter order.
-pub const CATEGORIES: [Category; 6] = [
+pub const CATEGORIES: [Category; CATEGORY_COUNT] = [
     Category::A,
     Category::B,
     Category::C,
@@ -29,7 +32,7 @@ pub const CATEGORIES: [Category; 6] = [
 ];
 
 impl Category {
-    /// The category of a text that is one capital letter, A to F. None for any other text.
+    /// The category of a text that is the capital letter of one. None for any other text.
     pub fn read(text: &[u8]) -> Option<Category>
         ensures { result ≡ category_of text.now }
     {
@@ -44,7 +47,7 @@ impl Category {
         }
     }
 
-    /// Its capital letter, A to F.
+    /// Its capital letter.
     pub fn letter(self) -> u8
         ensures { result ≡ letter self }
     {
@@ -58,18 +61,25 @@ impl Category {
         }
     }
 
-    // Its place in letter order, from 0.
-    pub(crate) fn place(self) -> usize
-        ensures value { result ≡ place self }
-        ensures below { result < 6 }
+    /// That letter as a text.
+    pub fn letter_text(self) -> &'static str
+        ensures { result.now ≡ letter_text self }
     {
         match self {
-            Category::A => 0,
-            Category::B => 1,
-            Category::C => 2,
-            Category::D => 3,
-            Category::E => 4,
-            Category::F => 5,
+            Category::A => "A",
+            Category::B => "B",
+            Category::C => "C",
+            Category::D => "D",
+            Category::E => "E",
+            Category::F => "F",
         }
+    }
+
+    /// Its place in letter order, from 0.
+    pub fn place(self) -> usize
+        ensures value { result ≡ place self }
+        ensures below { result < category_count }
+    {
+        self as usize
     }
 }

@@ -4,5 +4,5 @@
 mod category;
 mod table;
 
-pub use category::{CATEGORIES, Category};
-pub use table::{GREATEST_SEPARATION, PairTable, SAMPLE, TableFault};
+pub use category::{CATEGORIES, CATEGORY_COUNT, Category};
+pub use table::{GREATEST_SEPARATION, PairTable, Row, Rows, SAMPLE, TableFault};

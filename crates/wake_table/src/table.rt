@@ -1,15 +1,22 @@
-ghost use Rattle.std.specs.Prelude.{◌≡◌, ◌<◌, ◌≤◌, ◌+◌, find};
+ghost use Rattle.std.specs.Prelude.{◌≡◌, ◌<◌, ◌≤◌, ◌+◌, find, slice_index};
 ghost use Rattle.wake_table.specs.declared.category.Category.{Category};
+ghost use Rattle.wake_table.specs.Letters.{place};
 ghost use Rattle.wake_table.specs.Table.{breaks_triangle, greatest_separation, is_out_of_range, pairs, separation, table_of, triples, IsWakeTable};
 
-use crate::category::{CATEGORIES, Category};
+use crate::category::{CATEGORIES, CATEGORY_COUNT, Category};
 use std::marker::Model;
 
 /// The greatest separation, in seconds.
 pub const GREATEST_SEPARATION: u32 = 600;
 
-/// The rows of the sample table of separations, in the RECAT-EU form: for each leader the seconds of the followers A to F.
-pub const SAMPLE: [[u32; 6]; 6] = [
+/// Seconds for each category, in letter order.
+pub type Row = [u32; CATEGORY_COUNT];
+
+/// A row for each category, in letter order.
+pub type Rows = [Row; CATEGORY_COUNT];
+
+/// The rows of the sample table of separations, in the RECAT-EU form: for each leader the seconds of the followers.
+pub const SAMPLE: Rows = [
     [90, 110, 120, 130, 140, 180],
     [60, 90, 100, 110, 120, 160],
     [60, 60, 60, 60, 100, 140],
@@ -29,14 +36,14 @@ pub enum TableFault {
 }
 
 #[tactic(auto, unfolding(crate::specs::Table::separation))]
-fn entry(rows: &[[u32; 6]; 6], leader: Category, follower: Category) -> u32
+fn entry(rows: &Rows, leader: Category, follower: Category) -> u32
     ensures { result ≡ separation rows.now leader follower }
 {
     rows[leader.place()][follower.place()]
 }
 
 // Whether a leader and a follower have less than 1 second between them, or more than the greatest separation.
-fn is_out_of_range(rows: &[[u32; 6]; 6], pair: (Category, Category)) -> bool
+fn is_out_of_range(rows: &Rows, pair: (Category, Category)) -> bool
     ensures { result ≡ is_out_of_range rows.now pair }
 {
     let seconds = entry(rows, pair.0, pair.1);
@@ -44,7 +51,7 @@ fn is_out_of_range(rows: &[[u32; 6]; 6], pair: (Category, Category)) -> bool
 }
 
 // The first such pair, in letter order.
-fn bad_pair(rows: &[[u32; 6]; 6], letters: &[Category]) -> Option<(Category, Category)>
+fn bad_pair(rows: &Rows, letters: &[Category]) -> Option<(Category, Category)>
     ensures { result ≡ find (is_out_of_range rows.now) (pairs letters.now) }
 {
     letters
@@ -54,7 +61,7 @@ fn bad_pair(rows: &[[u32; 6]; 6], letters: &[Category]) -> Option<(Category, Cat
 }
 
 // Whether it takes longer from the first to the last than by way of the one in the middle.
-fn breaks_triangle(rows: &[[u32; 6]; 6], triple: (Category, Category, Category)) -> bool
+fn breaks_triangle(rows: &Rows, triple: (Category, Category, Category)) -> bool
     ensures { result ≡ breaks_triangle rows.now triple }
 {
     let (first, middle, last) = triple;
@@ -63,7 +70,7 @@ fn breaks_triangle(rows: &[[u32; 6]; 6], triple: (Category, Category, Category))
 }
 
 // The first such triple, in letter order.
-fn bad_triple(rows: &[[u32; 6]; 6], letters: &[Category]) -> Option<(Category, Category, Category)>
+fn bad_triple(rows: &Rows, letters: &[Category]) -> Option<(Category, Category, Category)>
     ensures { result ≡ find (breaks_triangle rows.now) (triples letters.now) }
 {
     letters
@@ -76,10 +83,10 @@ fn bad_triple(rows: &[[u32; 6]; 6], letters: &[Category]) -> Option<(Category, C
 /// The separation of each leader and follower: 1 to 600 seconds each, and never more than by way of a third
 /// flight between them (the triangle inequality).
 ///
-/// Contracts see it as its rows: for each leader in letter order, the seconds of the followers A to F.
+/// Contracts see it as its rows: for each leader in letter order, the seconds of the followers.
 #[derive(Clone, Copy, PartialEq, Eq)]
 pub struct PairTable {
-    rows: [[u32; 6]; 6],
+    rows: Rows,
 }
 
 impl Model for PairTable {
@@ -101,7 +108,7 @@ impl PairTable {
     /// `OutOfRange` names the first pair, leader first, that is outside 1 to 600 seconds. Where all are inside,
     /// `Triangle` names the first triple that breaks the triangle inequality.
     #[tactic(auto, unfolding(crate::specs::Table::first_fault))]
-    pub fn new(seconds: [[u32; 6]; 6]) -> Result<PairTable, TableFault>
+    pub fn new(seconds: Rows) -> Result<PairTable, TableFault>
         ensures { result ≡ table_of seconds }
     {
         if let Some((leader, follower)) = bad_pair(&seconds, &CATEGORIES) {
@@ -122,5 +129,17 @@ impl PairTable {
         ensures whole { IsWakeTable self.now }
     {
         entry(&self.rows, leader, follower)
+    }
+
+    /// The separations of a follower behind each leader, in letter order.
+    pub fn separations_behind(&self, follower: Category) -> Row
+        ensures { (leader : Category) → slice_index result (place leader)
+            ≡ separation self.now leader follower }
+    {
+        let mut row = [0; CATEGORY_COUNT];
+        for i in 0..CATEGORY_COUNT {
+            row[i] = entry(&self.rows, CATEGORIES[i], follower);
+        }
+        row
     }
 }
