@@ -1,8 +1,6 @@
 -- Where the first record of a text ends, and how many fields it has, from one byte to the next.
-use Rattle.std.proofs.Common.{◌≡◌, ℕ, ◌+◌, ◌<◌, ◌≤◌, Bool, List, [], ◌∷◌, ◌++◌, true, false, length, drop, get_or}
-use Rattle.std.proofs.Common.{Option, Some, None, refl, sym, ap, ◌∙◌, arith, length-append}
-use Rattle.std.proofs.lemmas.Option.{same_Some}
-use Rattle.std.proofs.lemmas.Grind.{common_steps}
+use Rattle.std.proofs.Common.{rules, ◌≡◌, ℕ, ◌+◌, ◌<◌, ◌≤◌, Bool, List, [], ◌∷◌, ◌++◌, true, false, length, drop}
+use Rattle.std.proofs.Common.{get_or, Option, Some, None, refl, sym, ◌∙◌, arith, length-append}
 use Rattle.std.proofs.lemmas.List.{drop_more}
 use Rattle.std.proofs.Math.Seq.{drop-length}
 use Rattle.csv.specs.Machine.{step, Read, next_record, ends_at_end}
@@ -16,7 +14,7 @@ use Rattle.csv_records.specs.declared.width.Place.{Place}
 use Rattle.csv_records.specs.declared.width.Place.TheVariants as place
 use Rattle.csv_records.specs.declared.width.Turn.{Turn}
 use Rattle.csv_records.specs.declared.width.Turn.TheVariants as turn
-use Rattle.csv_records.specs.Extent.{state_of, place_of, turn_by, turn_of, first_of, IsEnd}
+use Rattle.csv_records.specs.Extent.{state_of, place_of, turn_of, first_of, IsEnd}
 
 -- a place inside a record
 abbrev pub is_inside : Place → Bool
@@ -35,8 +33,7 @@ ShowsStep p q = Shows p q.0 q.1
 
 shows : (p : Place) (c : ℕ) → ShowsStep p (step default_config (state_of p) c)
 unfolding ShowsStep Shows
-shows place.Between c = grind (arith, common_steps)
-shows p c = grind (arith, common_steps)
+shows p c = grind arith
 
 -- the first record is what is read of the text left, from a place inside or before it, behind so many fields
 abbrev pub IsAt : Option Read → Place → ℕ → List ℕ → Type 0
@@ -55,42 +52,13 @@ After o p ended rest turn.EndsRecord = (q : Read) × (o ≡ Some q) × (length q
 after : (o : Option Read) (p : Place) (ended c : ℕ) (rest : List ℕ) → IsAt o p ended (c ∷ rest)
     → After o p ended rest (turn_of (step default_config (state_of p) c))
 unfolding next_record ShowsStep Shows After
-after o p ended c rest (fields, f, is, len) =
-    by (step default_config (state_of p) c).0 (step default_config (state_of p) c).1 refl refl (shows p c)
-  where
-    by : (s : State) (a : Action) → (step default_config (state_of p) c).0 ≡ s
-        → (step default_config (state_of p) c).1 ≡ a
-        → Shows p (step default_config (state_of p) c).0 (step default_config (state_of p) c).1
-        → After o p ended rest (turn_by (step default_config (state_of p) c).0 (step default_config (state_of p) c).1)
-    by s act.Skip es ea h =
-        let shown : (state_of (place_of s) ≡ s) × (is_inside p ≡ true → is_inside (place_of s) ≡ true) =
-        rw (es, ea) at h in
-        let same : o ≡ next_record default_config s fields f rest = rw (es, ea) at is in
-        rw (es, ea) ((fields, f, rw shown.0 same, len), shown.1)
-    by s act.Copy es ea h =
-        let shown : (state_of (place_of s) ≡ s) × (is_inside p ≡ true → is_inside (place_of s) ≡ true) =
-        rw (es, ea) at h in
-        let same : o ≡ next_record default_config s fields (f ++ c ∷ []) rest = rw (es, ea) at is in
-        rw (es, ea) ((fields, f ++ c ∷ [], rw shown.0 same, len), shown.1)
-    by s act.EndField es ea h =
-        let shown : s ≡ st.StartField = rw (es, ea) at h in
-        let same : o ≡ next_record default_config s (fields ++ f ∷ []) [] rest = rw (es, ea) at is in
-        rw (es, ea) (fields ++ f ∷ [], [], rw shown at same, more fields f ∙ ap (λ n. n + 1) len)
-    by s act.EndRecord es ea h =
-        let same : o ≡ Some (fields ++ f ∷ [], s, rest) = rw (es, ea) at is in
-        rw (es, ea) ((fields ++ f ∷ [], s, rest), same, more fields f ∙ ap (λ n. n + 1) len, refl)
+after o p ended c rest h5 = grind (arith, shows, more)
 
 -- inside a record there is one, with a field more than have ended
 gives : (o : Option Read) (p : Place) (ended : ℕ) (left : List ℕ) → is_inside p ≡ true → IsAt o p ended left
     → (q : Read) × (o ≡ Some q) × (ended < length q.0)
 unfolding next_record After
-gives o p ended [] inside (fields, f, is, len) =
-    ((fields ++ f ∷ [], st.StartRecord, []), is ∙ at_end p inside, omega (arith, len, more fields f))
-  where
-    at_end : (p : Place) → is_inside p ≡ true
-        → next_record default_config (state_of p) fields f [] ≡ Some (fields ++ f ∷ [], st.StartRecord, [])
-    at_end place.Between i = absurd (cc i)
-    at_end p i = refl
+gives o p ended [] inside (fields, f, is, len) = search (rules, more)
 gives o p ended (c ∷ rest) inside at =
     by (turn_of (step default_config (state_of p) c)) (after o p ended c rest at)
     (λ next h. gives o next ended rest (h.1 inside) h.0) (λ h. gives o place.FieldStart (ended + 1) rest refl h)
@@ -114,10 +82,7 @@ IsTurn text p i t = t ≡ turn_of (step default_config (state_of p) (get_or text
 
 turned : (text : List ℕ) (p : Place) (ended i : ℕ) (t : Turn) → i < length text → IsScanned text p ended i
     → IsTurn text p i t → After (first_of text) p ended (drop (i + 1) text) t
-turned text p ended i t below at same =
-    let here : drop i text ≡ get_or text i 0 ∷ drop (i + 1) text = drop_more text i 0 below in
-    let now : IsAt (first_of text) p ended (get_or text i 0 ∷ drop (i + 1) text) = rw here at at in
-    rw same (after (first_of text) p ended (get_or text i 0) (drop (i + 1) text) now)
+turned text p ended i t below at same = grind (arith, drop_more, after)
 
 pub scan_goes_on : (text : List ℕ) (p next : Place) (ended i : ℕ) → i < length text → IsScanned text p ended i
     → IsTurn text p i (turn.GoesOn next) → IsScanned text next ended (i + 1)
@@ -133,28 +98,21 @@ scan_field text p ended i below at same = turned text p ended i turn.EndsField b
 pub scan_wide : (text : List ℕ) (most ended i : ℕ) → most ≤ ended → IsScanned text place.FieldStart ended i
     → IsEnd most text None
 scan_wide text most ended i over at =
-    let (q, is, above) = gives (first_of text) place.FieldStart ended (drop i text) refl at in
-    (q, is, omega (arith, above, over))
+    grind (arith, gives (first_of text) place.FieldStart ended (drop i text) refl at)
 
 -- the record ends at this byte
 pub scan_ends : (text : List ℕ) (p : Place) (most ended i : ℕ) → i < length text → ended < most
     → IsScanned text p ended i → IsTurn text p i turn.EndsRecord → IsEnd most text (Some (i + 1))
 unfolding After
 scan_ends text p most ended i below few at same =
-    let (q, has, len, rest) = turned text p ended i turn.EndsRecord below at same in (
-      omega (arith, below),
-      λ r has2. let one : q ≡ r =
-          same_Some q r (sym has ∙ has2) in rw (← one) (omega (arith, len, few), rest),
-    )
+    let (q, has, len, rest) = turned text p ended i turn.EndsRecord below at same in
+    grind arith
 
 -- the end of the text
 at_end : (p : Place) (fields : Fields) (f : List ℕ) (q : Read)
     → next_record default_config (state_of p) fields f [] ≡ Some q → (length q.0 ≡ length fields + 1) × (q.2 ≡ [])
 unfolding next_record
-at_end place.Between fields f q e = let none : None ≡ Some q = e in absurd (cc none)
-at_end p fields f q e =
-    let same = same_Some (fields ++ f ∷ [], st.StartRecord, []) q e in
-    rw (← same) (more fields f, refl)
+at_end p fields f q e = search (rules, more)
 
 pub scan_over : (text : List ℕ) (p : Place) (most ended i : ℕ) → ended < most → i ≡ length text
     → IsScanned text p ended i → IsEnd most text (Some (length text))

@@ -1,9 +1,8 @@
 -- Each record takes a byte or more, so that enough turns give all records of a text.
-use Rattle.std.proofs.Common.{◌≡◌, ℕ, zero, suc, ◌+◌, ◌<◌, ◌≤◌, List, [], ◌∷◌, ◌++◌, true, false, length, Option, Some}
+use Rattle.std.proofs.Common.{◌≡◌, ℕ, zero, suc, ◌+◌, ◌<◌, ◌≤◌, List, [], ◌∷◌, true, false, length, Option, Some}
 use Rattle.std.proofs.Common.{None, refl, sym, ap, ◌∙◌, add-one, arith, inl, inr}
 use Rattle.std.proofs.lemmas.Bool.{cases_Bool}
 use Rattle.std.proofs.lemmas.Option.{same_Some}
-use Rattle.std.proofs.lemmas.Grind.{common_steps}
 use Rattle.csv.specs.Machine.{step, Read, next_record, is_end, ends_at_end, fields_after}
 use Rattle.csv.specs.Reading.{default_config, records_from, records_next, ReadsNext, NextIs}
 use Rattle.csv.specs.declared.parser.State.{State}
@@ -22,20 +21,13 @@ Ends p = is_end p.1 ≡ true → Between p.0
 
 end_between : (s : State) (c : ℕ) → Ends (step default_config s c)
 unfolding Ends
-end_between st.StartRecord c = grind (arith, common_steps)
-end_between s c = grind (arith, common_steps)
+end_between s c = grind arith
 
 -- a record leaves the text between two records, and takes a byte of a text that has one
 takes : (s : State) (fields : Fields) (f xs : List ℕ) (q : Read) → next_record default_config s fields f xs ≡ Some q
     → Between q.1 × (length q.2 ≤ length xs) × (0 < length xs → length q.2 < length xs)
 unfolding next_record Ends
-takes s fields f [] q e =
-    elim (cases_Bool (ends_at_end s)) [
-      | inl ended ↦
-          let same = same_Some (fields ++ (f ∷ []), st.StartRecord, []) q (rw ended at e) in
-          rw (← same) (refl, omega arith, λ h. h)
-      | inr between ↦ let none : None ≡ Some q = rw between at e in absurd (cc none)
-    ]
+takes s fields f [] q e = grind arith
 takes s fields f (c ∷ xs) q e =
     elim (cases_Bool (is_end (step default_config s c).1)) [
       | inl end ↦
@@ -51,7 +43,7 @@ takes s fields f (c ∷ xs) q e =
 shorter : (s : State) (xs : List ℕ) (q : Read) → Between s → next_record default_config s [] [] xs ≡ Some q
     → length q.2 < length xs
 unfolding next_record
-shorter s [] q between e = let none : None ≡ Some q = rw between at e in absurd (cc none)
+shorter s [] q between e = cc
 shorter s (c ∷ xs) q between e = (takes s [] [] (c ∷ xs) q e).2 (omega arith)
 
 -- any two counts of turns that are above the length give the same records
@@ -80,16 +72,13 @@ turn n s xs = rw add-one refl
 -- between two records it is no matter how the last one ended
 start_same : (s : State) (xs : List ℕ) → Between s → next_record default_config s [] [] xs ≡ first_of xs
 unfolding next_record
-start_same st.StartRecord xs b = refl
 start_same st.AfterCr [] b = refl
-start_same st.AfterCr (c ∷ xs) b = grind (arith, common_steps)
-start_same s xs b = absurd (cc b)
+start_same s xs b = grind arith
 
 -- the first record of a text is the first of those that are left
 pub first_left : (s : State) (xs : List ℕ) (q : Read) → Between s → first_of xs ≡ Some q
     → (more : List Fields) × (records_left s (Some xs) ≡ q.0 ∷ more)
-first_left s xs q between first =
-    (records_from default_config (length xs) q.1 q.2, turn (length xs) s xs ∙ rw (start_same s xs between ∙ first) refl)
+first_left s xs q between first = grind (arith, turn (length xs) s xs, start_same s xs between)
 
 -- a read that gave a record gave the first of the text and of those that were left, and leaves the others
 pub one_read : (s : State) (xs : List ℕ) (after : Option (List ℕ)) (fields : Fields) (s2 : State)
@@ -120,10 +109,4 @@ one_read s xs (Some ys) fields s2 between read = by (next_record default_config 
 -- a read that gave none left none
 pub none_read : (s : State) (xs : List ℕ) (after : Option (List ℕ)) (fields : Fields) (s2 : State)
     → ReadsNext default_config s (Some xs) after false fields s2 → records_left s (Some xs) ≡ []
-none_read s xs None fields s2 read = absurd read
-none_read s xs (Some ys) fields s2 read = by (next_record default_config s [] [] xs) refl read
-  where
-    by : (o : Option Read) → next_record default_config s [] [] xs ≡ o → NextIs o false fields s2 ys
-        → records_left s (Some xs) ≡ []
-    by None e is = turn (length xs) s xs ∙ rw e refl
-    by (Some q) e is = absurd (cc is.0)
+none_read s xs after fields s2 read = grind (arith, turn)

@@ -6,11 +6,7 @@ use Rattle.csv_records.proofs.width.without_mark.Goals.{then-bytes-lt3-via-then-
 use Rattle.csv_records.proofs.width.without_mark.Goals.{then-bytes-lt3-via-else-bytes-lt3+then-not-is_mark}
 
 pub returns-then-bytes-lt3 : goal.returns-then-bytes-lt3
-returns-then-bytes-lt3 c = elim c.then-bytes-lt3.branch [
-  | then-bytes-lt3-via-then-bytes-lt3 w ↦ unmarked_short c.args.bytes.now (omega (arith, w.if-bytes-lt3.true))
-  | then-bytes-lt3-via-else-bytes-lt3+then-not-is_mark w ↦
-      unmarked c.args.bytes.now w.if-bytes-lt3.false w.if-not-is_mark.ensures
-]
+returns-then-bytes-lt3 c = grind (arith, unmarked_short, unmarked)
 
 pub returns : goal.returns
 returns c = marked c.args.bytes.now c.if-bytes-lt3.false c.if-not-is_mark.ensures

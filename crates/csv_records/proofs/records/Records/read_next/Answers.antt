@@ -1,7 +1,6 @@
 -- A read gives the first of the records that were left.
-use Rattle.std.proofs.Common.{◌≡◌, ◌-◌, ◌∷◌, Option, ℕ, Bor, true, false, List, Some, length, take, drop, refl, sym}
-use Rattle.std.proofs.Common.{ap, ◌∙◌}
-use Rattle.csv.specs.Reading.{ReadRecord}
+use Rattle.std.proofs.Common.{rules, arith, ◌≡◌, ◌-◌, ◌∷◌, Option, ℕ, Bor, false, List, Some, length, take, drop, sym}
+use Rattle.std.proofs.Common.{◌∙◌}
 use Rattle.csv.specs.Records.{fields_of}
 use Rattle.csv_records.specs.Rows.{within}
 use Rattle.csv_records.specs.Left.{IsSet, left_in}
@@ -19,38 +18,27 @@ one : (c : goal.In-Ok-true)
     ∷ within c.self.inside.most (left_in slice false c.read_byte_record.new.self))
 one c =
     let set = c.self.invariant.1 c.if-self.false in
-    let read : ReadRecord slice c.self.inside.reader c.read_byte_record.new.self true
-    (fields_of c.read_byte_record.new.row) =
-    rw c.in-Ok-true.field-0-test at (c.in-Ok-true.ensures.reads set.trim set.ready) in
-    few_read slice c.self.inside.reader c.read_byte_record.new.self c.self.inside.rest.now
-    (fields_of c.read_byte_record.new.row) c.self.inside.most c.in-Some.end
-    set c.in-Some.ensures read (c.in-Ok-true.ensures.ready set.trim) c.in-Ok-true.ensures.flexible
+    few_read slice c.self.inside.reader c.read_byte_record.new.self c.self.inside.rest.now (fields_of
+    c.read_byte_record.new.row) c.self.inside.most c.in-Some.end set c.in-Some.ensures (rw
+    c.in-Ok-true.field-0-test at (c.in-Ok-true.ensures.reads set.trim set.ready)) (c.in-Ok-true.ensures.ready
+    set.trim) c.in-Ok-true.ensures.flexible
 
 pub returns-in_default-clause-read : goal.returns-in_default-clause-read
 returns-in_default-clause-read c =
-    let were : within c.self.inside.most (left_in slice c.self.inside.is_done c.self.inside.reader) ≡ c.args.self.now =
-    c.self.view_is in
     let set = c.self.invariant.1 c.if-self.false in
-    rw c.clear.ensures.fields (sym (rw c.if-self.false at were)
-    ∙ wide_left slice c.self.inside.reader c.self.inside.rest.now c.self.inside.most set c.in_default.ensures)
+    rw c.clear.ensures.fields (sym (rw c.if-self.false at c.self.view_is) ∙ wide_left slice c.self.inside.reader
+    c.self.inside.rest.now c.self.inside.most set c.in_default.ensures)
 
 pub invariant_of-self-in-Ok-true : goal.invariant_of-self-in-Ok-true
 invariant_of-self-in-Ok-true c = (c.self.invariant.0, λ _. (one c).0)
 
 pub returns-in-Ok-true-clause-read : goal.returns-in-Ok-true-clause-read
-returns-in-Ok-true-clause-read c =
-    let were : within c.self.inside.most (left_in slice c.self.inside.is_done c.self.inside.reader) ≡ c.args.self.now =
-    c.self.view_is in
-    rw c.if-self.false (sym (rw c.if-self.false at were) ∙ (one c).1)
+returns-in-Ok-true-clause-read c = grind (arith, one)
 
 pub returns-in-Ok-false-clause-read : goal.returns-in-Ok-false-clause-read
 returns-in-Ok-false-clause-read c =
     let set = c.self.invariant.1 c.if-self.false in
-    let read : ReadRecord slice c.self.inside.reader c.read_byte_record.new.self false
-    (fields_of c.read_byte_record.new.row) =
-    rw c.in-Ok-false.field-0-test at (c.in-Ok-false.ensures.reads set.trim set.ready) in
-    let none = read_none slice c.self.inside.reader c.read_byte_record.new.self c.self.inside.rest.now
-    (fields_of c.read_byte_record.new.row) set read in
-    let were : within c.self.inside.most (left_in slice c.self.inside.is_done c.self.inside.reader) ≡ c.args.self.now =
-    c.self.view_is in
-    (sym (rw c.if-self.false at were) ∙ ap (λ rs. within c.self.inside.most rs) none, refl)
+    let none = read_none slice c.self.inside.reader c.read_byte_record.new.self c.self.inside.rest.now (fields_of
+    c.read_byte_record.new.row) set (rw c.in-Ok-false.field-0-test at (c.in-Ok-false.ensures.reads set.trim
+    set.ready)) in
+    search rules
