@@ -21,14 +21,7 @@ abbrev rules : ℕ → OrderRules
 rules n = record { count = n; most = 1; back = λ r. 1; before = λ a r. false }
 
 agree_below_three : AgreeBelow 3 (rules 2) (rules 7)
-agree_below_three = record {
-  same_most = refl;
-  there = omega arith;
-  same_back = λ r lt. refl;
-  same_before =
-      λ a r la lr b. absurd (false≢true b);
-  same_above = λ a r da lr b. absurd (false≢true b);
-}
+agree_below_three = grind (arith, false≢true)
 
 same_landings : SameLandings 3 (λ r t. 1000 ≤ t) (λ r t. 1000 ≤ t) (λ l t r. t + 60) (λ l t r. t + 60)
     (λ r t. t) (λ r t. t)

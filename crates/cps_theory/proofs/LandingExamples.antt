@@ -103,27 +103,10 @@ swept : sweep 100 ((1000, 5) ∷ (1005, 7) ∷ (1010, 3) ∷ []) ≡ (1000, 5) �
 swept = refl
 
 staircase : Staircase ((1000, 5) ∷ (1010, 3) ∷ [])
-staircase = (
-  (λ q i. elim i [
-    | inl e ↦ (let a = ap (λ (z : Pair). z.0) e in let b =
-        ap (λ (z : Pair). z.1) e in (omega arith, omega arith))
-    | inr j ↦ absurd j
-  ]),
-  ((λ q i. absurd i), tt),
-)
+staircase = grind arith
 
 in_pair_order : InPairOrder ((1000, 5) ∷ (1000, 7) ∷ [])
-in_pair_order = (
-  (λ q i. elim i [
-    | inl e ↦ inr (
-      omega (arith, ap (λ (z : Pair). z.0) e),
-      let b =
-          ap (λ (z : Pair). z.1) e in omega arith,
-    )
-    | inr j ↦ absurd j
-  ]),
-  ((λ q i. absurd i), tt),
-)
+in_pair_order = grind arith
 
 covers_all : Covers ((1005, 4) ∷ (1010, 4) ∷ []) (add_pair (1005, 4) ((1010, 4) ∷ []))
 covers_all = add_covers _ ((1010, 4) ∷ [])

@@ -18,36 +18,7 @@ use Rattle.cps_theory.proofs.NodeExamples.{two}
 use Rattle.cps_theory.proofs.ScheduleExamples.{pair_of_flights, in_rank_order}
 
 in_order_legal : Legal two (2 ∷ 1 ∷ [])
-in_order_legal = (
-  record {
-    fits = record {
-      from_one = omega arith;
-      to_count = omega arith;
-      is_new =
-          λ i. elim i [ inl e ↦ absurd (omega arith) | inr j ↦ j ];
-      not_early = omega arith;
-      not_late = omega arith;
-      after =
-          λ a b. absurd (false≢true b);
-    };
-    due = λ x one e. inr (inl (omega arith));
-  },
-  (
-    record {
-      fits = record {
-        from_one = omega arith;
-        to_count = omega arith;
-        is_new =
-            λ i. i;
-        not_early = omega arith;
-        not_late = omega arith;
-        after = λ a b. absurd (false≢true b);
-      };
-      due = λ x one e. absurd (omega arith);
-    },
-    tt,
-  ),
-)
+in_order_legal = grind (arith, false≢true)
 
 pattern_reached : ReachedIn pair_of_flights (pattern_node two (2 ∷ 1 ∷ [])) 1200
 pattern_reached = record {
@@ -93,21 +64,7 @@ last_second_is_objective : IsObjective (λ q. q.0)
 last_second_is_objective = λ a b le. le.0
 
 start_completes : CompletesNode nobody (λ r t. 0) (λ t. true) (pattern_node nobody.rules []) (0, 0)
-start_completes = record {
-  opened = refl;
-  reached = record {
-    landings = [];
-    legal = tt;
-    landed =
-        tt;
-    at = refl;
-    by = zero-le;
-  };
-  low = refl;
-  rest = [];
-  follows = refl;
-  cost_is = refl;
-}
+start_completes = grind (arith, zero-le)
 
 lists_completing : ListsCompleting nobody (λ r t. 0) (λ t. true) (λ w. [])
 lists_completing = λ rs r l. absurd (omega arith)
@@ -116,16 +73,7 @@ built_of_none : BuiltByNodes nobody at_once (λ r t. 0) (λ w. []) 0 []
 built_of_none = tt
 
 feasible_none : (t : ℕ → ℕ) → Feasible nobody t
-feasible_none t = record {
-  opened = λ r i. absurd (no_rank r i);
-  started = λ r i. absurd (no_rank r i);
-  separated =
-      λ f g i. absurd (no_rank f i);
-  in_order = λ f g i. absurd (no_rank f i);
-  not_early =
-      λ r i. absurd (no_rank r i);
-  not_late = λ r i. absurd (no_rank r i);
-}
+feasible_none t = grind (arith, no_rank)
 
 first_best_none : (t : ℕ → ℕ) → FirstBest nobody (λ u. 0) t
 first_best_none t = record {

@@ -13,33 +13,10 @@ two = record { count = 2; most = 1; back = λ r. 1; before = λ a r. false }
 
 -- rank 2 lands first
 swapped_fits : FitsBehind two [] 2
-swapped_fits = record {
-  from_one = omega arith;
-  to_count = omega arith;
-  is_new =
-      λ i. i;
-  not_early = omega arith;
-  not_late = omega arith;
-  after = λ a b. absurd (false≢true b);
-}
+swapped_fits = omega (arith, false≢true)
 
 pub swapped_legal : Legal two (1 ∷ 2 ∷ [])
-swapped_legal = (
-  record {
-    fits = record {
-      from_one = omega arith;
-      to_count = omega arith;
-      is_new =
-          λ i. elim i [ inl e ↦ absurd (omega arith) | inr j ↦ j ];
-      not_early = omega arith;
-      not_late = omega arith;
-      after =
-          λ a b. absurd (false≢true b);
-    };
-    due = λ x one e. inl (omega arith);
-  },
-  (record { fits = swapped_fits; due = λ x one e. absurd (omega arith) }, tt),
-)
+swapped_legal = grind (arith, false≢true, swapped_fits)
 
 -- with k = 0 it may not
 kept_in_rank_order : FitsBehind (record two { most = 0 }) [] 2 → ⊥
@@ -73,15 +50,7 @@ pattern_places = inr refl
 
 -- rank 1 may come behind rank 2, and rank 2 not again
 one_may_come : PatternPermits two (1, false ∷ true ∷ [], 2) 1
-one_may_come = record {
-  from_one = omega arith;
-  to_count = omega arith;
-  is_new = λ h. elim h [ inl le ↦ absurd (omega arith) | inr e ↦ absurd (false≢true e) ];
-  not_early = omega arith;
-  not_late = omega arith;
-  after = λ a one b. absurd (false≢true b);
-  due = λ x one e. inl (omega arith);
-}
+one_may_come = grind (arith, false≢true)
 
 two_may_not : PatternPermits two (1, false ∷ true ∷ [], 2) 2 → ⊥
 two_may_not m = m.is_new (inr refl)

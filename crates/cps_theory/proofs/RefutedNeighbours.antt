@@ -16,14 +16,7 @@ abbrev one : OrderRules
 one = record { count = 1; most = 1; back = λ r. 1; before = λ a r. false }
 
 agree_below_two : AgreeBelow 2 two one
-agree_below_two = record {
-  same_most = refl;
-  there = omega arith;
-  same_back = λ r lt. refl;
-  same_before =
-      λ a r la lr b. absurd (false≢true b);
-  same_above = λ a r da lr b. absurd (false≢true b);
-}
+agree_below_two = grind (arith, false≢true)
 
 second_first : Legal two (2 ∷ [])
 second_first = swapped_legal.1

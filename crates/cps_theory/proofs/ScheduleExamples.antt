@@ -18,39 +18,13 @@ in_rank_order (suc zero) = 1000
 in_rank_order (suc (suc r)) = 1060
 
 each_of_two : (P : ℕ → Type 0) → P 1 → P 2 → (r : ℕ) → IsRank 2 r → P r
-each_of_two P a b zero i = absurd (omega arith)
-each_of_two P a b (suc zero) i = a
-each_of_two P a b (suc (suc zero)) i = b
-each_of_two P a b (suc (suc (suc r))) i = absurd (omega arith)
+each_of_two P a b r i = grind arith
 
 feasible_two : Feasible pair_of_flights in_rank_order
-feasible_two = record {
-  opened = each_of_two (λ r. leb 1000 (in_rank_order r) ≡ true) refl refl;
-  started = each_of_two (λ r. 1000 ≤ in_rank_order r) (omega arith) (omega arith);
-  separated = λ f g i j ne le. pairs f i g j ne le;
-  in_order = λ f g i j b. absurd (false≢true b);
-  not_early = each_of_two (λ r. r ≤ suc (earlier 2 in_rank_order r) + 1) (omega arith) (omega arith);
-  not_late = each_of_two (λ r. suc (earlier 2 in_rank_order r) ≤ r + 1) (omega arith) (omega arith);
-}
-  where
-    pairs : (f : ℕ) → IsRank 2 f → (g : ℕ) → IsRank 2 g → f ≢ g → in_rank_order f ≤ in_rank_order g
-        → in_rank_order f + 60 ≤ in_rank_order g
-    pairs f i g j = each_of_two (λ f. f ≢ g → in_rank_order f ≤ in_rank_order g
-        → in_rank_order f + 60 ≤ in_rank_order g)
-        (each_of_two (λ g. 1 ≢ g → 1000 ≤ in_rank_order g → 1060 ≤ in_rank_order g) (λ ne le. absurd (ne refl))
-        (λ ne le. omega arith) g j)
-        (each_of_two (λ g. 2 ≢ g → 1060 ≤ in_rank_order g → 1120 ≤ in_rank_order g) (λ ne le. absurd (omega arith))
-        (λ ne le. absurd (ne refl)) g j)
-        f i
+feasible_two = grind (arith, each_of_two, false≢true)
 
 sound_two : SoundProblem pair_of_flights
-sound_two = record {
-  triangle = λ a b c. omega arith;
-  positive = λ a b. omega arith;
-  ranked =
-      λ a r b. absurd (false≢true b);
-  low = λ r. omega arith;
-}
+sound_two = omega (arith, false≢true)
 
 first_rank : IsRank 2 1
 first_rank = omega arith
@@ -60,24 +34,11 @@ second_rank = omega arith
 
 -- no feasible schedule in rank order lands either earlier
 tight_two : Tight pair_of_flights in_rank_order
-tight_two = record {
-  feasible = feasible_two;
-  least = λ u f same.
-      let before = (same 1 2 first_rank second_rank).0 (omega arith) in
-      let apart = f.separated 1 2 first_rank second_rank (λ e. absurd (omega arith)) (omega arith) in
-      each_of_two (λ r. in_rank_order r ≤ u r) (omega arith) (omega arith);
-}
+tight_two = grind (arith, feasible_two, first_rank, second_rank, each_of_two)
 
 -- and no feasible schedule ends before 1060
 best_two : IsBest pair_of_flights (λ t. greatest t 2) in_rank_order
-best_two = record {
-  feasible = feasible_two;
-  least = λ u f.
-      elim (cases_lt (u 1) (u 2)) [
-        | inl lt ↦ (omega (arith, f.separated 1 2 first_rank second_rank (λ e. absurd (omega arith)) (omega arith)))
-        | inr le ↦ (omega (arith, f.separated 2 1 second_rank first_rank (λ e. absurd (omega arith)) le))
-      ];
-}
+best_two = grind (arith, feasible_two, cases_lt, first_rank, second_rank)
 
 seconds_by_rank : at_seconds in_rank_order (2 ∷ 1 ∷ []) ≡ (2, 1060) ∷ (1, 1000) ∷ []
 seconds_by_rank = refl

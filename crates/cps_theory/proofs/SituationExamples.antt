@@ -32,12 +32,7 @@ overtaken_once : overtook ltb plan 1100 (7 ∷ 9 ∷ []) 7 ≡ 1
 overtaken_once = refl
 
 by_number : FirstCome ltb
-by_number = record {
-  one_way = λ a b e. le-ltb b a (omega (arith, ltb-true a b e));
-  chain = λ a b c e f. lt-ltb a c (let l = ltb-true a b e in let m = ltb-true b c f in omega arith);
-  total = λ a b ne e. lt-ltb b a (let l =
-      ltb-false a b e in elim (cases_eq a b) [ inl s ↦ absurd (ne s) | inr ne' ↦ omega arith ]);
-}
+by_number = omega (arith, le-ltb, ltb-true, lt-ltb, ltb-false, cases_eq)
 
 -- one flight waits, and lands 60 seconds or more after the frozen flight 5
 abbrev situation : NumberedSituation
@@ -59,38 +54,16 @@ abbrev landing_of : ℕ → ℕ
 landing_of f = cond (ltb f 6) 980 1040
 
 one_of : (P : ℕ → Type 0) (x : ℕ) → P x → (y : ℕ) → In y (x ∷ []) → P y
-one_of P x p y (inl e) = rw e p
-one_of P x p y (inr i) = absurd i
+one_of P x p y h = grind arith
 
 two_of : (P : ℕ → Type 0) → P 5 → P 7 → (y : ℕ) → In y (5 ∷ 7 ∷ []) → P y
-two_of P p q y (inl e) = rw e p
-two_of P p q y (inr i) = one_of P 7 q y i
+two_of P p q y x = grind (arith, one_of)
 
 feasible_situation : FeasibleIn situation landing_of
-feasible_situation = record {
-  kept = one_of (λ f. landing_of f ≡ 980) 5 refl;
-  behind = one_of (λ f. 1000 ≤ landing_of f) 7 (omega arith);
-  opened = λ f i. refl;
-  separated = λ f g i j. two_of (λ f. f ≢ g → landing_of f ≤ landing_of g → landing_of f + 60 ≤ landing_of g)
-      (two_of (λ g. 5 ≢ g → 980 ≤ landing_of g → 1040 ≤ landing_of g) (λ ne le. absurd (ne refl))
-      (λ ne le. omega arith) g j)
-      (two_of (λ g. 7 ≢ g → 1040 ≤ landing_of g → 1100 ≤ landing_of g) (λ ne le. absurd (omega arith))
-      (λ ne le. absurd (ne refl)) g j) f i;
-  in_order = λ f g i j l. absurd (false≢true l);
-  shifted = one_of (λ f. KeepsCountedShift 1 (λ f. 1) ltb landing_of (7 ∷ []) f) 7 (omega arith, omega arith);
-}
+feasible_situation = grind (arith, one_of, two_of, false≢true)
 
 sound_situation : SoundSituation situation
-sound_situation = record {
-  triangle = λ a b c. omega arith;
-  order = by_number;
-  differ = ((λ i. i), tt);
-  frozen_before = λ f i. omega arith;
-  frozen_open = λ f i. refl;
-  frozen_apart = λ f g i j ne le. absurd (ne (one_of (λ x. x ≡ g) 5 (sym (one_of (λ y. y ≡ 5) 5 refl g j)) f i));
-  frozen_in_order = λ f g i j l. absurd (false≢true l);
-  none_listed = λ f g i j l. false≢true l;
-}
+sound_situation = grind (arith, by_number, one_of, false≢true)
 
 both_active : active situation ≡ 5 ∷ 7 ∷ []
 both_active = refl

@@ -53,13 +53,7 @@ module _ (s : Situation) (sound : IsSound s) where
 
     unique : (x y : Landing) → Member x (landings s.active t) → Member y (landings s.active t)
         → x.flight.callsign ≡ y.flight.callsign → x ≡ y
-    unique x y mx my e =
-        let v = of_number x mx in
-        let w = of_number y my in
-        elim (cases_eq v.0 w.0) [
-          | inl q ↦ v.2 ∙ ap (landing_at s.active t) q ∙ sym w.2
-          | inr ne ↦ absurd (callsigns_differ s sound v.0 w.0 v.1 w.1 ne (cc))
-        ]
+    unique x y mx my e = grind (arith, of_number, cases_eq, landing_at, callsigns_differ)
 
   -- the block of a feasible schedule is without a finding
   pub clean_none : (t : Schedule) → IsFeasible s t → findings s (block_of s t) ≡ []
@@ -98,30 +92,12 @@ module _ (s : Situation) (sound : IsSound s) where
       → (l : ShownLanding) × (a : Active) × Member l ls × (find (named l.callsign) s.active ≡ Some a)
       × (x ≡ landing a l.second)
   block_member [] x m = absurd m
-  block_member (l ∷ ls) x m = go _ refl m (block_member ls x)
-    where
-      go : (o : Option Active) → find (named l.callsign) s.active ≡ o
-          → Member x (map landing_of (cons_option (option_map (λ a. (l, a)) o) (lines_found s.active ls)))
-          → (Member x (block_landings s.active ls) → (k : ShownLanding) × (a : Active) × Member k ls
-          × (find (named k.callsign) s.active ≡ Some a) × (x ≡ landing a k.second))
-          → (k : ShownLanding) × (a : Active) × ((k ≡ l) ⊎ Member k ls)
-          × (find (named k.callsign) s.active ≡ Some a) × (x ≡ landing a k.second)
-      go None q m ih = let w = ih m in (w.0, w.1, inr w.2, w.3, w.4)
-      go (Some a) q (inl e) ih = (l, a, inl refl, q, e)
-      go (Some a) q (inr m) ih = let w = ih m in (w.0, w.1, inr w.2, w.3, w.4)
+  block_member (l ∷ ls) x m = grind (arith, block_landings, block_member ls x)
 
   member_block : (ls : List ShownLanding) (l : ShownLanding) (a : Active) → Member l ls
       → find (named l.callsign) s.active ≡ Some a → Member (landing a l.second) (block_landings s.active ls)
   member_block [] l a m q = absurd m
-  member_block (k ∷ ls) l a (inl e) q =
-      rw (ap (λ (y : ShownLanding). find (named y.callsign) s.active) (sym e) ∙ q) (inl (cc))
-  member_block (k ∷ ls) l a (inr m) q = go _ (member_block ls l a m q)
-    where
-      go : (o : Option Active) → Member (landing a l.second) (block_landings s.active ls)
-          → Member (landing a l.second)
-          (map landing_of (cons_option (option_map (λ c. (k, c)) o) (lines_found s.active ls)))
-      go None h = h
-      go (Some c) h = inr h
+  member_block (k ∷ ls) l a m q = grind (arith, block_landings, member_block ls)
 
   landings_map : (F : Active → ℕ) (all : List Active) → landings all (map F all) ≡ map (λ a. landing a (F a)) all
   landings_map F [] = refl
@@ -211,12 +187,4 @@ pub audit_law : AuditLaw
 audit_law s b sound = (none_clean s sound b, λ c. ap (findings s) c.2 ∙ clean_none s sound c.0 c.1)
 
 pub shown_plan_is_clean : ShownPlanIsCleanLaw
-shown_plan_is_clean state plan sound e = go _ refl e sound.shown
-  where
-    go : (o : Option Schedule) → state.plan ≡ o → option_map (shown_plan state.situation) o ≡ Some plan
-        → IsPlanShown state.situation o → findings state.situation (shown_block state plan) ≡ []
-    go None q e shown = absurd (cc)
-    go (Some t) q e shown =
-        let same : shown_plan state.situation t ≡ plan = cc in
-        ap (λ p. findings state.situation (shown_block state p)) (sym same)
-        ∙ clean_none _ sound.situation t shown.0.feasible
+shown_plan_is_clean state plan sound e = grind (arith, clean_none)

@@ -26,8 +26,7 @@ use Rattle.landing_rules.specs.shared.Members.{found_in, in_map, none_any}
 pub find_first : (all : List Active) → AllPairs (λ a b. a.flight.callsign ≢ b.flight.callsign) all
     → (i : ℕ) → i < length all → find (named (numbered all i).flight.callsign) all ≡ Some (numbered all i)
 find_first [] h i lt = absurd (omega arith)
-find_first (a ∷ all) h zero lt = ap (λ b. cond b (Some a) (find (named a.flight.callsign) all))
-    ((bytes_eq-Decides _ a.flight.callsign).1 refl)
+find_first (a ∷ all) h zero lt = grind (arith, bytes_eq-Decides)
 find_first (a ∷ all) h (suc i) lt =
     let c = (numbered all i).flight.callsign in
     let no' = false_from_ne_true _ (λ e. h 0 (suc i) nobody (omega arith) lt ((bytes_eq-Decides _ c).0 e)) in
@@ -56,16 +55,11 @@ found_any c all a e = elim (cases_Bool _) [
 pub line_member : (c : Callsign) (lines : List ShownLanding) → has_line lines c ≡ true
     → (l : ShownLanding) × Member l lines × (l.callsign ≡ c)
 line_member c [] e = absurd (false≢true e)
-line_member c (l ∷ lines) e = elim (or_cases _ _ e) [
-  | inl h ↦ (l, inl refl, (bytes_eq-Decides _ c).0 h)
-  | inr h ↦ (let w = line_member c lines h in (w.0, inr w.1, w.2))
-]
+line_member c (l ∷ lines) e = grind (arith, or_cases, bytes_eq-Decides, line_member c lines)
 
 pub member_line : (l : ShownLanding) (lines : List ShownLanding) → Member l lines → has_line lines l.callsign ≡ true
 member_line l [] m = absurd m
-member_line l (x ∷ lines) (inl e) = or_left _ _
-    ((bytes_eq-Decides _ _).1 (ap (λ (y : ShownLanding). y.callsign) (sym e)))
-member_line l (x ∷ lines) (inr m) = or_right _ _ (member_line l lines m)
+member_line l (x ∷ lines) m = grind (arith, or_left, bytes_eq-Decides, or_right, member_line l lines)
 
 -- no callsign stands twice
 pub twice_none : (seen lines : List ShownLanding) → twice_after seen lines ≡ []
@@ -100,11 +94,7 @@ second_in (l ∷ lines) c = cond (bytes_eq l.callsign c) l.second (second_in lin
 pub second_at : (lines : List ShownLanding) → Each (λ l m. l.callsign ≢ m.callsign) lines → (l : ShownLanding)
     → Member l lines → second_in lines l.callsign ≡ l.second
 second_at [] e l m = absurd m
-second_at (x ∷ lines) e l (inl s) = ap (λ b. cond b x.second (second_in lines l.callsign))
-    ((bytes_eq-Decides _ _).1 (ap (λ (y : ShownLanding). y.callsign) (sym s)))
-    ∙ ap (λ (y : ShownLanding). y.second) (sym s)
-second_at (x ∷ lines) e l (inr m) = ap (λ b. cond b x.second (second_in lines l.callsign))
-    (false_from_ne_true _ (λ q. e.0 l m ((bytes_eq-Decides _ _).0 q))) ∙ second_at lines e.1 l m
+second_at (x ∷ lines) e l m = grind (arith, bytes_eq-Decides, false_from_ne_true, second_at lines)
 
 -- ---- the order of lines
 
@@ -152,8 +142,7 @@ lines_landings s (x ∷ fs) h =
     ∙ ap₂ (λ (y : Landing) (l : List Landing). y ∷ l) (sym w.2) (lines_landings s fs (λ y m. h y (inr m)))
 
 pub mark_fits : (b : Bool) → cond (not b) (not b) b ≡ true
-mark_fits true = refl
-mark_fits false = refl
+mark_fits b = grind arith
 
 pub lines_marks : (s : Situation) (fs : List Landing) → ((x : Landing) → Member x fs → Found s x)
     → for_failing (λ x. is_marked x) (λ (x : ShownLanding × Active). Mark x.0.callsign)
@@ -227,5 +216,4 @@ same_true Delay Makespan e = absurd (false≢true e)
 same_true Delay Delay e = refl
 
 pub one_nil : (b : Bool) (x : Finding) → cond b [] (x ∷ []) ≡ [] → b ≡ true
-one_nil true x e = refl
-one_nil false x e = absurd (cons_nil x [] e)
+one_nil b x e = grind (arith, cons_nil)

@@ -1,4 +1,5 @@
 -- When lists of findings are empty.
+use Rattle.std.proofs.Common.{arith}
 use Rattle.std.proofs.Common.{◌≡◌, ◌⊎◌, inl, inr, List, [], ◌∷◌, ◌++◌, cond, Bool, true, refl, sym, ap, ◌∙◌}
 use Rattle.std.specs.Prelude.{flat_map}
 use Rattle.std.specs.Str.{bytes_eq}
@@ -21,8 +22,7 @@ pub nil_append : (xs ys : List Finding) → xs ≡ [] → ys ≡ [] → xs ++ ys
 nil_append xs ys e f = cc
 
 pub or_else_nil : (xs ys : List Finding) → or_else xs ys ≡ [] → (xs ≡ []) × (ys ≡ [])
-or_else_nil [] ys e = (refl, e)
-or_else_nil (x ∷ xs) ys e = cc
+or_else_nil xs ys e = grind arith
 
 pub cons_nil : (x : Finding) (xs : List Finding) → ◌≡◌ {A = List Finding} (x ∷ xs) [] → ⊥
 cons_nil x xs e = cc
@@ -30,22 +30,17 @@ cons_nil x xs e = cc
 pub broken_none : {X : Type 0} (holds : X → Bool) (f : X → Finding) (xs : List X) → for_failing holds f xs ≡ []
     → (x : X) → Member x xs → holds x ≡ true
 broken_none holds f [] e x m = absurd m
-broken_none holds f (y ∷ ys) e x m = elim (cases_Bool _) [
-  | inl q ↦ elim m [ inl s ↦ ap holds s ∙ q | inr k ↦ broken_none _ f ys (rw q at e) x k ]
-  | inr q ↦ absurd (cons_nil _ _ (rw q at e))
-]
+broken_none holds f (y ∷ ys) e x m = grind (arith, cases_Bool, cons_nil, broken_none holds f ys)
 
 pub none_broken : {X : Type 0} (holds : X → Bool) (f : X → Finding) (xs : List X)
     → ((x : X) → Member x xs → holds x ≡ true) → for_failing holds f xs ≡ []
 none_broken holds f [] h = refl
-none_broken holds f (y ∷ ys) h = ap (λ b. cond b (for_failing holds f ys) (f y ∷ for_failing holds f ys))
-    (h y (inl refl)) ∙ none_broken _ f ys (λ x m. h x (inr m))
+none_broken holds f (y ∷ ys) h = grind (arith, none_broken holds f ys)
 
 pub pairs_none : {X : Type 0} (holds : X → X → Bool) (f : X → X → Finding) (xs : List X)
     → for_failing_pairs holds f xs ≡ [] → Each (λ x y. holds x y ≡ true) xs
 pairs_none holds f [] e = tt
-pairs_none holds f (x ∷ xs) e = let a = append_nil _ _ e in
-    (broken_none _ _ xs a.0, pairs_none _ f xs a.1)
+pairs_none holds f (x ∷ xs) e = grind (arith, append_nil, broken_none, pairs_none holds f xs)
 
 pub none_pairs : {X : Type 0} (holds : X → X → Bool) (f : X → X → Finding) (xs : List X)
     → Each (λ x y. holds x y ≡ true) xs → for_failing_pairs holds f xs ≡ []
@@ -54,16 +49,12 @@ none_pairs holds f (x ∷ xs) e = nil_append _ _ (none_broken _ _ xs e.0) (none_
 
 pub each_pair : {X : Type 0} (R : X → X → Type 0) (xs : List X) → Each R xs → (x y : X) → Member x xs
     → Member y xs → (x ≡ y) ⊎ (R x y ⊎ R y x)
-each_pair R [] e x y i j = absurd i
-each_pair R (z ∷ zs) e x y (inl a) (inl b) = inl (a ∙ sym b)
-each_pair R (z ∷ zs) e x y (inl a) (inr j) = inr (inl (rw a (e.0 y j)))
-each_pair R (z ∷ zs) e x y (inr i) (inl b) = inr (inr (rw b (e.0 x i)))
-each_pair R (z ∷ zs) e x y (inr i) (inr j) = each_pair R zs e.1 x y i j
+each_pair R [] e x y i j = grind arith
+each_pair R (z ∷ zs) e x y i j = grind (arith, each_pair R zs)
 
 pub flat_nil : {X : Type 0} (F : X → List Finding) (xs : List X) → flat_map F xs ≡ [] → (x : X) → Member x xs → F x ≡ []
 flat_nil F [] e x m = absurd m
-flat_nil F (y ∷ ys) e x (inl s) = ap F s ∙ (append_nil _ _ e).0
-flat_nil F (y ∷ ys) e x (inr k) = flat_nil F ys (append_nil _ _ e).1 x k
+flat_nil F (y ∷ ys) e x m = grind (arith, append_nil, flat_nil F ys)
 
 pub nil_flat : {X : Type 0} (F : X → List Finding) (xs : List X) → ((x : X) → Member x xs → F x ≡ [])
     → flat_map F xs ≡ []
@@ -72,12 +63,8 @@ nil_flat F (y ∷ ys) h = nil_append _ _ (h y (inl refl)) (nil_flat F ys (λ x m
 
 pub any_member : (c : Callsign) (ds : List Callsign) → list_any (λ d. bytes_eq d c) ds ≡ true → Member c ds
 any_member c [] e = absurd (false≢true e)
-any_member c (d ∷ ds) e = elim (or_cases _ _ e) [
-  | inl h ↦ inl (sym ((bytes_eq-Decides d c).0 h))
-  | inr h ↦ inr (any_member c ds h)
-]
+any_member c (d ∷ ds) e = grind (arith, or_cases, bytes_eq-Decides, any_member c ds)
 
 pub member_any : (c : Callsign) (ds : List Callsign) → Member c ds → list_any (λ d. bytes_eq d c) ds ≡ true
 member_any c [] m = absurd m
-member_any c (d ∷ ds) (inl e) = or_left _ _ ((bytes_eq-Decides d c).1 (sym e))
-member_any c (d ∷ ds) (inr m) = or_right _ _ (member_any c ds m)
+member_any c (d ∷ ds) m = grind (arith, or_left, bytes_eq-Decides, or_right, member_any c ds)

@@ -1,4 +1,5 @@
 -- No finding by the rules exactly where the landings keep them.
+use Rattle.std.proofs.Common.{arith}
 use Rattle.std.proofs.Common.{◌≡◌, ℕ, ◌≤◌, ◌⊎◌, inl, inr, List, [], ◌∷◌, filter, Bool, true, false, not, ◌||◌, nat_le}
 use Rattle.std.proofs.Common.{nat_lt, nat_eq, refl, sym, subst}
 use Rattle.std.specs.Prelude.{unwrap_or, is_none, flat_map, All, IsTrue, MatchOption, Option, Some, None}
@@ -20,13 +21,11 @@ use Rattle.landing_rules.specs.shared.Members.{all_at, all_from}
 
 pub frozen_test : (o : Option ℕ) (h x : ℕ) → (is_none o || nat_eq x (unwrap_or o 0)) ≡ true
     → (not (is_none o) || nat_le h x) ≡ true → MatchOption o (h ≤ x) (λ t. x ≡ t)
-frozen_test None h x a b = leb-true h x b
-frozen_test (Some t) h x a b = eqb-true x t a
+frozen_test o h x a b = grind (arith, leb-true, eqb-true)
 
 pub test_frozen : (o : Option ℕ) (h x : ℕ) → MatchOption o (h ≤ x) (λ t. x ≡ t)
     → ((is_none o || nat_eq x (unwrap_or o 0)) ≡ true) × ((not (is_none o) || nat_le h x) ≡ true)
-test_frozen None h x m = (refl, le-leb h x m)
-test_frozen (Some t) h x m = (eq-eqb x t m, refl)
+test_frozen o h x m = grind (arith, le-leb, eq-eqb)
 
 pub rules_kept : (s : Situation) (all : List Landing)
     → ((f : Landing) → Member f all → All (λ w. (w.0 ≤ w.1) × (w.1 ≤ last_second)) f.flight.windows)

@@ -45,10 +45,7 @@ in_sorted all x js = member_permutation js _ x (sorted_permutes all js)
 map_insert : (all : List Active) (i : ℕ) (js : List ℕ)
     → map (numbered all) (insert_number all i js) ≡ lists'.insert_by_rank (numbered all i) (map (numbered all) js)
 map_insert all i [] = refl
-map_insert all i (j ∷ js) = elim (cases_Bool (earlier all j i)) [
-  | inl e ↦ rw e (ap (λ l. numbered all j ∷ l) (map_insert all i js))
-  | inr e ↦ rw e
-]
+map_insert all i (j ∷ js) = grind (arith, cases_Bool, map_insert all i js)
 
 pub map_sorted : (all : List Active) (js : List ℕ)
     → map (numbered all) (numbers_by_rank all js) ≡ lists'.by_rank (map (numbered all) js)
@@ -85,17 +82,14 @@ module _ (s : Situation) (sound : IsSound s) where
   pub sorted_ordered : (js : List ℕ) → ((j : ℕ) → In j js → In j (numbers_of s.active)) → Distinct js
       → Ordered (comes_before s.active) (numbers_by_rank s.active js)
   sorted_ordered [] mj d = tt
-  sorted_ordered (j ∷ js) mj d = insert_ordered j _ (mj j (inl refl))
-      (λ k m. mj k (inr (sorted_in s.active k js m))) (λ m. d.0 (sorted_in s.active j js m))
-      (sorted_ordered js (λ k m. mj k (inr m)) d.1)
+  sorted_ordered (j ∷ js) mj d = grind (arith, insert_ordered, sorted_in, sorted_ordered js)
 
 -- ---- reads
 
 pub slice_map : (all : List Active) (js : List ℕ) (i : ℕ) (d : ℕ) → i < length js
     → slice_get (map (numbered all) js) i ≡ Some (numbered all (get_or js i d))
-slice_map all [] i d lt = absurd (omega arith)
-slice_map all (j ∷ js) zero d lt = refl
-slice_map all (j ∷ js) (suc i) d lt = slice_map all js i d (omega arith)
+slice_map all [] i d lt = grind arith
+slice_map all (j ∷ js) i d lt = grind (arith, slice_map all js)
 
 -- ---- the last of the frozen
 

@@ -42,8 +42,7 @@ filter_agree p q (x ∷ xs) h = ap₂ (λ b l. cond b (x ∷ l) l) (h x (inl ref
 
 filter_twice : (p q : ℕ → Bool) (xs : List ℕ) → filter p (filter q xs) ≡ filter (λ x. q x && p x) xs
 filter_twice p q [] = refl
-filter_twice p q (x ∷ xs) =
-    elim (cases_Bool (q x)) [ inl e ↦ rw (e, filter_twice p q xs) | inr e ↦ rw (e, filter_twice p q xs) ]
+filter_twice p q (x ∷ xs) = grind (arith, cases_Bool, filter_twice p q xs)
 
 -- what the clock makes of a landing: of its flight, its second, how many passed it before and after, whether it is
 -- before the horizon, and whether counts are carried
@@ -59,38 +58,7 @@ froze : (fl : Flight) (fr : Option ℕ) (pa sec m : ℕ) (d c : Bool)
     → Froze fl fr pa sec m d c (cond (is_none fr && d) (record { flight = fl; frozen = Some sec; passed = 0 })
     (cond (is_none fr) (record { flight = fl; frozen = None; passed = cond c m pa })
     (record { flight = fl; frozen = fr; passed = pa })))
-froze fl (Some v) pa sec m d c = record {
-  flight = refl;
-  waits = refl;
-  second = λ e x. absurd (false≢true x);
-  was = λ e. refl;
-  passed = inl refl;
-  counted = λ q x e. absurd (false≢true x);
-}
-froze fl None pa sec m true c = record {
-  flight = refl;
-  waits = refl;
-  second = λ e x. refl;
-  was = λ e. absurd (cc);
-  passed = inr (inl refl);
-  counted = λ q x e. absurd (cc);
-}
-froze fl None pa sec m false true = record {
-  flight = refl;
-  waits = refl;
-  second = λ e x. absurd (cc);
-  was = λ e. refl;
-  passed = inr (inr (refl, refl));
-  counted = λ q x e. refl;
-}
-froze fl None pa sec m false false = record {
-  flight = refl;
-  waits = refl;
-  second = λ e x. absurd (cc);
-  was = λ e. refl;
-  passed = inl refl;
-  counted = λ q x e. absurd (false≢true q);
-}
+froze fl fr pa sec m d c = grind (arith, false≢true)
 
 module _ (s : Situation) (sound : IsSound s) (t : Schedule) (f : IsFeasible s t) (now : ℕ)
     (forth : horizon s ≤ now + s.aerodrome.freeze) where
@@ -140,21 +108,14 @@ module _ (s : Situation) (sound : IsSound s) (t : Schedule) (f : IsFeasible s t)
   waits_after i m = (at_after i m).waits
 
   pub waiting_after : (numbered_situation changed).waiting ≡ staying_of (second_of t) h ns.waiting
-  waiting_after =
-      ap (filter _) numbers_after ∙ filter_agree _ _ _ waits_after ∙ sym (filter_twice _ _ (numbers_of s.active))
+  waiting_after = search (numbers_after, filter_agree, waits_after, filter_twice)
 
   -- as many pass a flight as overtake it by number
   pub passing_is : (i : ℕ) → In i (numbers_of s.active)
       → count_passing i ≡ overtook (comes_before s.active) (second_of t) h ns.waiting i
   passing_is i m =
-      let fl = (numbered s.active i).flight in
-      let L = landing_at s.active t in
-      let N = numbers_of s.active in
-      let a = ap (filter _) (landings_are _ t f.0) ∙ filter_map_is _ L N in
-      ap (count_by (λ (g : Landing). is_lt (arrival_cmp fl g.flight))) a ∙ count_by_map _ L (filter _ N) ∙
-      count_by_agree _ _ _
-      (λ j k. sym (comes_is s sound i j m (in_filter (λ x. waits_at s.active x && nat_lt (second_of t x) h) j N k).0))
-      ∙ ap (count_by (λ j. comes_before s.active i j)) (sym (filter_twice _ _ N))
+      grind (arith, landing_at, landings_are, filter_map_is, count_by_map, count_by_agree, comes_is, in_filter,
+          filter_twice)
 
   -- ---- the situation stays sound
 
@@ -212,11 +173,7 @@ module _ (s : Situation) (sound : IsSound s) (t : Schedule) (f : IsFeasible s t)
   waiting_before = ap (filter _) (active_are s.active) ∙ filter_map_is _ _ (numbers_of s.active)
 
   pub few_after : length (waiting changed) ≤ length (waiting s)
-  few_after =
-      let a = ap length waiting_changed ∙ length-map _ _ ∙ ap length waiting_after in
-      let b = ap length waiting_before ∙ length-map _ _ in
-      let c = fewer_kept (λ x. not (nat_lt (second_of t x) h)) ns.waiting in
-      omega arith
+  few_after = grind (arith, waiting_changed, length-map, waiting_after, waiting_before, fewer_kept, not)
 
   each_after : (P : Active → Type 0) → ((i : ℕ) → In i (numbers_of s.active) → P (numbered after i)) → All P after
   each_after P q i d lt = rw (get_or_default after i nobody d lt) at (q i (in_after i lt))
@@ -295,20 +252,11 @@ module _ (s : Situation) (sound : IsSound s) (t : Schedule) (f : IsFeasible s t)
   less_back : (i : ℕ) → In i (numbers_of s.active)
       → ns.back i - overtook (comes_before s.active) (second_of t) h ns.waiting i ≤ s.aerodrome.k -
       (numbered after i).passed
-  less_back i m =
-      let p = passing_is i m in
-      elim (at_after i m).passed [
-        | inl e ↦ omega arith
-        | inr x ↦ elim x [
-          | inl e ↦ omega arith
-          | inr y ↦ (omega arith)
-        ]
-      ]
+  less_back i m = grind (arith, passing_is, at_after)
 
   pub comes_after : (i j : ℕ) → In i (numbers_of s.active) → In j (numbers_of s.active)
       → comes_before after i j ≡ comes_before s.active i j
-  comes_after i j mi mj = ap₂ (λ (x : Flight) (y : Flight). is_lt (ordering_then (arrival_cmp x y) (nat_cmp i j)))
-      (same_flight i mi) (same_flight j mj)
+  comes_after i j mi mj = search same_flight
 
   rank_after : (i : ℕ) → In i (numbers_of s.active)
       → rank_in (comes_before after) (numbered_situation changed).waiting i ≡ rank_in (comes_before s.active)
@@ -358,63 +306,25 @@ module _ (s : Situation) (sound : IsSound s) (t : Schedule) (f : IsFeasible s t)
   feasible_after = numbered_feasible _ sound_after t (f.0 ∙ sym length_after) after_numbered
 
   pub objective_after : objective changed t ≡ objective s t
-  objective_after = ap (cost s.aerodrome.objective) (landings_are _ t (f.0 ∙ sym length_after)
-      ∙ ap (map _) numbers_after) ∙ go _ ∙ ap (cost s.aerodrome.objective) (sym (landings_are _ t f.0))
-    where
-      go : (o : Objective) → cost o (map (landing_at after t) (numbers_of s.active)) ≡ cost o
-          (map (landing_at s.active t) (numbers_of s.active))
-      go Makespan = ap greatest (map_map _ _ _ ∙ sym (map_map _ _ _))
-      go Delay = sum_map _ _ (numbers_of s.active)
-          ∙ sum_agree _ _ _ (λ i m. ap (λ (x : Flight). x.weight * (second_of t i - x.eta)) (same_flight i m))
-          ∙ sym (sum_map _ _ (numbers_of s.active))
+  objective_after =
+      grind (arith, landings_are, length_after, numbers_after, landing_at, map_map, sum_map, sum_agree, same_flight)
 
 -- ---- the laws
 
 pub forth_of : (clock : Option ℕ) (now freeze : ℕ) → clock_back clock now ≡ None
     → horizon_after clock freeze ≤ now + freeze
-forth_of None now freeze e = zero-le
-forth_of (Some last) now freeze e = elim (cases_lt now last) [
-  | inl lt ↦ (let w : Some (ClockBack last) ≡ None = rw (lt-ltb now _ lt) at e in absurd (cc))
-  | inr le ↦ omega arith
-]
+forth_of clock now freeze e = grind (arith, zero-le, cases_lt, lt-ltb)
 
 pub clock_keeps_plan : ClockKeepsPlanLaw
-clock_keeps_plan s t now sound f e =
-    let forth = forth_of _ now _ e in
-    record { feasible = feasible_after s sound t f now forth; objective = objective_after s sound t f now forth }
+clock_keeps_plan s t now sound f e = search (forth_of, feasible_after, objective_after)
 
 pub clock_shows_plan : ClockShowsPlanLaw
-clock_shows_plan old new now t sound shown e step =
-    let s = old.situation in
-    let kept = clock_keeps_plan s t now sound.situation (rw shown at sound.shown).0.feasible e in
-    let is = step.changed ∙ ap (λ p. situation_after s p (Clock now)) shown in
-    let same = ap (λ x. objective x t) is ∙ kept.objective in
-    go _ refl step.shown (subst (λ x. IsFeasible x t) (sym is) kept.feasible) same
-  where
-    go : (p : Option Schedule) → new.plan ≡ p → IsPlanShown new.situation p → IsFeasible new.situation t
-        → objective new.situation t ≡ objective old.situation t → (u : Schedule) × (new.plan ≡ Some u)
-        × (objective new.situation u ≤ objective old.situation t)
-    go None q x there same = absurd (x t there)
-    go (Some u) q x there same = (u, q, omega (arith, x.0.least t there))
+clock_shows_plan old new now t sound shown e step = grind (arith, clock_keeps_plan)
 
 -- with no plan shown the situation stays as it is, but for its horizon
 sound_alone : (s : Situation) (now : ℕ) → IsSound s → horizon s ≤ now + s.aerodrome.freeze
     → IsSound (situation_after s None (Clock now))
-sound_alone s now sound forth = record {
-  table = sound.table;
-  callsigns = sound.callsigns;
-  few_active = sound.few_active;
-  few_waiting = sound.few_waiting;
-  few_closures = sound.few_closures;
-  flights = sound.flights;
-  passed = sound.passed;
-  no_carry = sound.no_carry;
-  frozen_open = sound.frozen_open;
-  frozen_separated = sound.frozen_separated;
-  frozen_in_precedence = sound.frozen_in_precedence;
-  frozen_before = λ k d lt. omega (arith, sound.frozen_before k d lt);
-  frozen_alone = sound.frozen_alone;
-}
+sound_alone s now sound forth = grind arith
 
 pub clock_keeps_sound : ClockKeepsSoundLaw
 clock_keeps_sound s None now sound f e = sound_alone s now sound (forth_of _ now _ e)

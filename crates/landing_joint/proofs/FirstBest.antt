@@ -43,16 +43,12 @@ order_insert : (all : List Active) (t : Schedule) (i : ℕ) (js : List ℕ)
     → insert_landing (landing_at all t i) (map (landing_at all t) js) ≡ map (landing_at all t)
     (insert_by (second_of t) i js)
 order_insert all t i [] = refl
-order_insert all t i (j ∷ js) = elim (cases_Bool (nat_lt (second_of t j) (second_of t i))) [
-  | inl e ↦ rw e (ap (λ l. landing_at all t j ∷ l) (order_insert all t i js))
-  | inr e ↦ rw e
-]
+order_insert all t i (j ∷ js) = grind (arith, cases_Bool, landing_at, order_insert all t i js)
 
 order_numbers : (all : List Active) (t : Schedule) (js : List ℕ)
     → in_landing_order (map (landing_at all t) js) ≡ map (landing_at all t) (sorted_by (second_of t) js)
 order_numbers all t [] = refl
-order_numbers all t (j ∷ js) = ap (insert_landing (landing_at all t j)) (order_numbers all t js)
-    ∙ order_insert all t j _
+order_numbers all t (j ∷ js) = search (landing_at, order_insert, order_numbers all t js)
 
 module _ (s : Situation) (sound : IsSound s) where
   abbrev ns : numbers.NumberedSituation
@@ -66,27 +62,17 @@ module _ (s : Situation) (sound : IsSound s) where
   rank_of i = rank_in (comes_before s.active) (numbered_situation s).waiting i
 
   in_waiting_by : (t : Schedule) (i : ℕ) → In i (waiting_by t) → In i ns.waiting
-  in_waiting_by t i m =
-      let w = in_filter _ i _ m in
-      filter_in _ i _ (in_sorted_by _ i (numbers_of s.active) w.0) w.1
+  in_waiting_by t i m = grind (arith, in_filter, filter_in, in_sorted_by)
 
   waiting_in_by : (t : Schedule) (i : ℕ) → In i ns.waiting → In i (waiting_by t)
-  waiting_in_by t i m =
-      let w = in_filter _ i _ m in
-      filter_in _ i _ (sorted_by_in _ i (numbers_of s.active) w.0) w.1
+  waiting_in_by t i m = grind (arith, in_filter, filter_in, sorted_by_in)
 
   -- the order of ranks is that of these numbers
   order_is : (t : Schedule) → length t ≡ length s.active → order_of s t ≡ map rank_of (waiting_by t)
   unfolding rank_of
   order_is t long =
-      let W = map _ (waiting s) in
-      let L = landing_at s.active t in
-      let xs = sorted_by (second_of t) (numbers_of s.active) in
-      let a =
-      ap (λ l. filter waits (in_landing_order l)) (landings_are _ t long)
-      ∙ ap (filter _) (order_numbers _ t (numbers_of s.active)) ∙ filter_map_is _ L xs in
-      ap (map _) a ∙ map_map _ L _ ∙ map_agree (λ i. rank W (numbered s.active i).flight) _
-      _ (λ i m. rank_is s sound i (in_filter _ i _ (in_waiting_by t i m)).0)
+      grind (arith, landing_at, landings_are, order_numbers, filter_map_is, map_map, map_agree, rank_is, in_filter,
+          in_waiting_by)
 
   -- different waiting flights have different ranks
   rank_below : (i j : ℕ) → In i ns.waiting → comes_before s.active i j ≡ true → rank_of i < rank_of j
@@ -177,11 +163,7 @@ module _ (s : Situation) (sound : IsSound s) where
 
   -- there is at most one first best schedule
   pub first_best_is_one : (t u : Schedule) → IsFirstBest s t → IsFirstBest s u → t ≡ u
-  first_best_is_one t u a b =
-      let e = no_later_antisym _ _ (a.first u b.best b.tight) (b.first t a.best a.tight) in
-      let o = order_tells t u a.tight.feasible b.tight.feasible e in
-      let o' = order_tells u t b.tight.feasible a.tight.feasible (sym e) in
-      zip_same t u (a.tight.earliest u b.tight.feasible o) (b.tight.earliest t a.tight.feasible o')
+  first_best_is_one t u a b = grind (arith, no_later_antisym, order_tells, zip_same)
 
 -- a first best schedule costs what every best one does
 pub first_best_objective : (s : Situation) (t u : Schedule) → IsFirstBest s t → IsBest s u
@@ -326,8 +308,7 @@ module _ (p : lists'.Problem) (is : IsSoundProblem p) where
   ranked_sound = sound_ranked p is.table (λ q r e. let b = is.between_ranks q r e in (b.0, b.1))
 
   pub passed_at : (r : ℕ) → IsRank (length p.flights) r → (of_rank no_waiting p.flights r).passed ≤ p.k
-  passed_at zero q = omega arith
-  passed_at (suc i) q = omega arith
+  passed_at r q = grind arith
 
   pub one_first_best_list : (v w : Schedule) → IsFirstBestList p v → IsFirstBestList p w → v ≡ w
   one_first_best_list = first_best_list_is_one p ranked_sound passed_at
@@ -339,14 +320,10 @@ module _ (p : lists'.Problem) (is : IsSoundProblem p) where
 
 pub first_plan_is_one : (s : Situation) (plan other : Option Schedule) → IsSound s → IsFirstPlan s plan
     → IsFirstPlan s other → plan ≡ other
-first_plan_is_one s None None sound a b = refl
-first_plan_is_one s None (Some u) sound a b = absurd (a u b.best.feasible)
-first_plan_is_one s (Some t) None sound a b = absurd (b t a.best.feasible)
-first_plan_is_one s (Some t) (Some u) sound a b = ap Some (first_best_is_one s sound t u a b)
+first_plan_is_one s plan other sound a b = grind (arith, first_best_is_one)
 
 pub first_plan_is_shown : (s : Situation) (plan : Option Schedule) → IsFirstPlan s plan → IsPlanShown s plan
-first_plan_is_shown s None a = a
-first_plan_is_shown s (Some t) a = (a.best, a.tight)
+first_plan_is_shown s plan a = grind arith
 
 pub first_list_gives_plan : (s : Situation) (p : lists'.Problem) (list : Option Schedule) → IsSound s
     → lists'.IsProblemOf s p → IsFirstList p list → IsFirstPlan s (option_map (lists'.joined s) list)

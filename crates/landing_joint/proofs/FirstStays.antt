@@ -14,10 +14,7 @@ use Rattle.cps_theory.specs.laws.RankCounts.{count_split, count_weaker}
 module _ (comes_before : ℕ → ℕ → Bool) (order : FirstCome comes_before) where
   -- if f does not come before x, whoever comes after f comes after x
   behind_both : (f x y : ℕ) → comes_before f x ≡ false → comes_before f y ≡ true → comes_before x y ≡ true
-  behind_both f x y ahead after = elim (cases_eq f x) [
-    | inl e ↦ rw e at after
-    | inr ne ↦ order.chain x f y (order.total f x ne ahead) after
-  ]
+  behind_both f x y ahead after = grind (arith, cases_eq)
 
   -- one of the list before which no other of it comes
   abbrev First : List ℕ → Type 0
@@ -64,24 +61,12 @@ module _ (comes_before : ℕ → ℕ → Bool) (order : FirstCome comes_before) 
   module _ (t : ℕ → ℕ) (waiting : List ℕ) (k h : ℕ) (back : ℕ → ℕ) (shift : (f : ℕ) → In f waiting
       → KeepsCountedShift k back comes_before t waiting f) where
     stays : (f : ℕ) → In f (staying_of t h waiting) → In f waiting × (h ≤ t f)
-    stays f i =
-        let w = in_filter _ f _ i in (
-          w.0,
-          elim (cases_lt (t f) h) [
-            | inl lt ↦ absurd (false≢true (sym (ap not (lt-ltb _ h lt)) ∙ w.1))
-            | inr le ↦ le
-          ],
-        )
+    stays f i = grind (arith, in_filter, cases_lt, false≢true, not, lt-ltb)
 
     -- as many freeze behind f as behind one that stands no further back, or fewer
     pub fewer_overtook : (f x : ℕ) → comes_before f x ≡ false
         → overtook comes_before t h waiting f ≤ overtook comes_before t h waiting x
-    fewer_overtook f x ahead =
-        let froze = frozen_of t h waiting in
-        let a = count_is (λ g. comes_before f g) froze in
-        let b = count_is (λ g. comes_before x g) froze in
-        let w = count_weaker _ _ froze (λ y i e. behind_both f x y ahead e) in
-        omega arith
+    fewer_overtook f x ahead = search (count_is, count_weaker, behind_both)
 
     -- those behind the first that stays are no more than it may go back
     few_overtook_first : (m : ℕ) → In m (staying_of t h waiting)
@@ -110,12 +95,7 @@ module _ (comes_before : ℕ → ℕ → Bool) (order : FirstCome comes_before) 
     -- so for each that stays there is one that stands no further back and bounds those that freeze behind it
     pub bound_overtook : (f : ℕ) → In f (staying_of t h waiting) → (m : ℕ) × In m (staying_of t h waiting)
         × (comes_before f m ≡ false) × (overtook comes_before t h waiting f ≤ back m)
-    bound_overtook f i =
-        let r = first_in f _ i in
-        let ahead = r.2 f i in
-        let a = fewer_overtook f r.0 ahead in
-        let b = few_overtook_first r.0 r.1 r.2 in
-        (r.0, r.1, ahead, omega arith)
+    bound_overtook f i = grind (arith, first_in, fewer_overtook, few_overtook_first)
 
   -- ---- where none may go back by more than one place
 
@@ -134,17 +114,10 @@ module _ (comes_before : ℕ → ℕ → Bool) (order : FirstCome comes_before) 
     module _ (h f m : ℕ) (i : In f waiting) (j : In m waiting) (stays_f : h ≤ t f) (later : t f ≤ t m)
         (ahead : comes_before f m ≡ false) where
       among : (g : ℕ) → (nat_lt (t g) h && comes_before f g) ≡ true → (nat_lt (t g) (t m) && comes_before m g) ≡ true
-      among g e =
-          let p = and_parts (nat_lt (t g) h) (comes_before f g) e in
-          let lt = ltb-true _ h p.0 in
-          and_from _ _ (lt-ltb _ _ (omega arith)) (behind_both f m g ahead p.1)
+      among g e = grind (arith, and_parts, ltb-true, and_from, lt-ltb, behind_both)
 
       as_many : overtook comes_before t h waiting f ≤ overtook comes_before t (t m) waiting m
-      as_many =
-          let w = count_weaker _ _ waiting (λ g n e. among g e) in
-          let a = overtook_is h f in
-          let b = overtook_is (t m) m in
-          omega arith
+      as_many = search (count_weaker, among, overtook_is)
 
       more : f ≢ m → overtook comes_before t h waiting f < overtook comes_before t (t m) waiting m
       more ne =

@@ -1,4 +1,5 @@
 -- The events of one flight keep a situation sound: it is cancelled, estimated again or added.
+use Rattle.std.proofs.lemmas.Grind.{common_steps}
 use Rattle.std.proofs.Common.{◌≡◌, ℕ, suc, ◌<◌, ◌≤◌, inl, inr, Bool, true, false, cond, not, List, [], ◌∷◌, ◌++◌}
 use Rattle.std.proofs.Common.{length, map, filter, Option, Some, None, refl, sym, ap, subst, ◌∙◌, arith}
 use Rattle.std.specs.Prelude.{◌≢◌, option_map, is_none, nat_le, if◌then◌else◌}
@@ -48,8 +49,7 @@ estimate_frozen c eta windows a = elim (cases_Bool (named c a)) [ inl e ↦ rw e
 callsigns_mapped : (f : Active → Active) → ((a : Active) → (f a).flight.callsign ≡ a.flight.callsign)
     → (xs : List Active) → callsigns (map f xs) ≡ callsigns xs
 callsigns_mapped f h [] = refl
-callsigns_mapped f h (x ∷ xs) = ap (λ c. c ∷ callsigns (map f xs)) (h x)
-    ∙ ap (λ l. x.flight.callsign ∷ l) (callsigns_mapped f h xs)
+callsigns_mapped f h (x ∷ xs) = search (callsigns, callsigns_mapped f h xs)
 
 pub re_estimated : (s : Situation) (plan : Option Schedule) (c : Callsign) (eta : ℕ) (windows : List Span)
     → IsSound s → IsGoodEvent (Estimate c eta windows) → refusal s (Estimate c eta windows) ≡ None
@@ -95,27 +95,11 @@ pub add_parts : (there : Bool) (flights wait : ℕ) (found : Option Landing) (c 
     else (if nat_le most_waiting wait then Some TooManyWaiting
     else option_map (λ (g : Landing). PredecessorOfFrozen g.flight.callsign) found))) ≡ None →
     (there ≡ false) × (flights < most_flights) × (wait < most_waiting) × (found ≡ None)
-add_parts true flights wait found c e = absurd (cc)
-add_parts false flights wait None c e = elim (cases_lt flights most_flights) [
-  | inl lt ↦ elim (cases_lt wait most_waiting) [
-    | inl lt' ↦ (refl, lt, lt', refl)
-    | inr le ↦ (let w : Some TooManyWaiting ≡ None = rw (lt-leb _ _ lt, le-leb _ _ le) at e in absurd (cc))
-  ]
-  | inr le ↦ (let w : Some TooManyFlights ≡ None = rw (le-leb _ _ le) at e in absurd (cc))
-]
-add_parts false flights wait (Some g) c e = absurd (some_none _ _ e)
-  where
-    some_none : (a b : Bool) → cond a (Some TooManyFlights)
-        (cond b (Some TooManyWaiting) (Some (PredecessorOfFrozen g.flight.callsign))) ≡ None → ⊥
-    some_none true b e = cc
-    some_none false true e = cc
-    some_none false false e = cc
+add_parts there flights wait found c e = grind (arith, cases_lt, lt-leb, le-leb)
 
 pub waiting_push : (xs : List Active) (f : Flight)
     → length (filter is_waiting (xs ++ newcomer f ∷ [])) ≡ suc (length (filter is_waiting xs))
-waiting_push [] f = refl
-waiting_push (x ∷ xs) f = let h =
-    waiting_push xs f in elim (cases_Bool (is_waiting x)) [ inl e ↦ rw e (omega arith) | inr e ↦ rw e h ]
+waiting_push xs f = grind (arith, common_steps, cases_Bool)
 
 differ_push : (xs : List Active) (a : Active) → Differ (callsigns xs)
     → ((x : Active) → Member x xs → x.flight.callsign ≢ a.flight.callsign) → Differ (callsigns (xs ++ a ∷ []))

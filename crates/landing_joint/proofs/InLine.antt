@@ -1,4 +1,5 @@
 -- A flight that stays in line through a run is passed by at most k flights: each kind of event keeps the counts.
+use Rattle.std.proofs.lemmas.Grind.{common_steps}
 use Rattle.std.proofs.Common.{◌≡◌, ℕ, ◌+◌, ◌≤◌, inl, inr, true, false, length, List, [], ◌∷◌, Option, Some, None, refl}
 use Rattle.std.proofs.Common.{sym, ap, ap₂, subst, ◌∙◌, arith}
 use Rattle.std.specs.Prelude.{All, is_none}
@@ -35,27 +36,16 @@ not_lt_itself : (f : Flight) → is_lt (arrival_cmp f f) ≡ false
 not_lt_itself f = ap is_lt (tied_itself arrival_total f)
 
 one_way : (f g : Flight) → is_lt (arrival_cmp f g) ≡ true → is_lt (arrival_cmp g f) ≡ false
-one_way f g e = ap is_lt (arrival_total.antisymm g f) ∙ go _ e
-  where
-    go : (o : Ordering) → is_lt o ≡ true → is_lt (ordering_reverse o) ≡ false
-    go Less e = refl
-    go Equal e = absurd (false≢true e)
-    go Greater e = absurd (false≢true e)
+one_way f g e = grind (arith, arrival_total, false≢true)
 
 -- who has another name and does not stand behind stands ahead
 ahead_of : (f g : Flight) → (f.callsign ≡ g.callsign → ⊥) → is_lt (arrival_cmp f g) ≡ false
     → is_lt (arrival_cmp g f) ≡ true
-ahead_of f g ne e = elim (cases _) [
-  | inl l ↦ absurd (false≢true (sym e ∙ ap is_lt l))
-  | inr (inl q) ↦ absurd (ne (level-callsign f g q))
-  | inr (inr q) ↦ ap is_lt (arrival_total.antisymm g f ∙ ap ordering_reverse q)
-]
+ahead_of f g ne e = grind (arith, cases, false≢true, level-callsign, arrival_total)
 
 ahead_parts : (o p : Option Active) → is_ahead o p ≡ true → (g : Active) × (f : Active) × (o ≡ Some g)
     × (p ≡ Some f) × (is_lt (arrival_cmp g.flight f.flight) ≡ true)
-ahead_parts None p e = absurd (false≢true e)
-ahead_parts (Some g) None e = absurd (false≢true e)
-ahead_parts (Some g) (Some f) e = (g, f, refl, refl, e)
+ahead_parts o p e = grind (arith, false≢true)
 
 -- ---- events that freeze nobody
 
@@ -120,24 +110,13 @@ estimate_passed c eta windows a = elim (cases_Bool (named c a)) [ inl e ↦ rw e
 same_estimated : (s : Situation) (plan : Option Schedule) (c : Callsign) (eta : ℕ) (windows : List Span)
     → IsSound s → SameCounts s (situation_after s plan (Estimate c eta windows))
 same_estimated s plan c eta windows sound x a m n e =
-    let w = in_filter _ _ x m in
-    let r = in_map (estimated c eta windows) _ x w.0 in
-    let waits = ap is_none (sym (estimate_frozen c eta _ r.0)) ∙ ap is_waiting (sym r.2) ∙ w.1 in
-    let name = sym (estimate_callsign c eta _ r.0) ∙ ap (λ (z : Active). z.flight.callsign) (sym r.2) ∙ sym e in
-    ap (λ (z : Active). z.passed) r.2 ∙ estimate_passed c eta _ r.0
-    ∙ ap (λ (z : Active). z.passed) (one_waits s sound r.0 a (filter_in _ s.active r.0 r.1 waits) n name)
+    grind (arith, in_filter, in_map, estimate_frozen, estimate_callsign, estimate_passed, one_waits, filter_in)
 
 same_added : (s : Situation) (plan : Option Schedule) (f : Flight) → IsSound s → refusal s (Add f) ≡ None
     → SameCounts s (situation_after s plan (Add f))
 same_added s plan f sound ok x a m n e =
-    let p = add_parts _ _ (length (waiting s)) _ _ ok in
-    let w = in_filter _ _ x m in
-    elim (in_push _ _ x w.0) [
-      | inl q ↦ ap (λ (z : Active). z.passed) (one_waits s sound x a (filter_in _ s.active x q w.1) n (sym e))
-      | inr q ↦
-          absurd (false≢true (sym (none_any (named f.callsign) _ a p.0 (in_filter _ s.active a n).0) ∙
-          (bytes_eq-Decides _ _).1 (e ∙ ap (λ (z : Active). z.flight.callsign) q)))
-    ]
+    grind (arith, common_steps, add_parts, in_filter, in_push, one_waits, filter_in, false≢true, none_any,
+        bytes_eq-Decides)
 
 -- ---- an accepted event
 
@@ -151,8 +130,7 @@ none_more k c s g n e h = rw (let z : g ≡ g + n = omega arith in z) at h
 
 none_pass : (old : State) (e : Event) → ((f : Flight) → passing_by_event old e f ≡ 0) → (o : Option Active)
     → passing_flight old e o ≡ 0
-none_pass old e h None = refl
-none_pass old e h (Some a) = h a.flight
+none_pass old e h o = grind arith
 
 abbrev state_of : Situation → Option Schedule → State
 state_of s plan = record { situation = s; plan = plan }
@@ -163,8 +141,7 @@ by_kind : (s : Situation) (P : Option Schedule → Event → Type 0) → IsSound
     → ((f : Flight) → passing_by_event (state_of s plan) e f ≡ 0) → P plan e) →
     ((t : Schedule) (now : ℕ) → P (Some t) (Clock now))
     → (plan : Option Schedule) (e : Event) → refusal s e ≡ None → P plan e
-by_kind s P sound still clock plan (Estimate d eta windows) ok =
-    still plan (Estimate d eta windows) (same_estimated s plan d eta _ sound) (λ f. refl)
+by_kind s P sound still clock plan (Estimate d eta windows) ok = search same_estimated
 by_kind s P sound still clock plan (Cancel d) ok = still plan (Cancel d) (same_cancelled s plan d sound) (λ f. refl)
 by_kind s P sound still clock plan (Add x) ok = still plan (Add x) (same_added s plan x sound ok) (λ f. refl)
 by_kind s P sound still clock (Some t) (Clock now) ok = clock t now
@@ -194,16 +171,14 @@ event_counted s plan c g e sound feasible carry here so_far good ok line =
 
 step_aerodrome : (old new : State) (e : Event) (answer : Option Refusal) → Step old e answer new
     → new.situation.aerodrome ≡ old.situation.aerodrome
-step_aerodrome old new e None step = ap (λ (s : Situation). s.aerodrome) step.effect.changed ∙ aerodrome_stays _ _ e
-step_aerodrome old new e (Some r) step = cc
+step_aerodrome old new e answer step = grind (arith, aerodrome_stays)
 
 step_counted : (old new : State) (e : Event) (answer : Option Refusal) (c : Callsign) (g : ℕ)
     → IsSoundState old → IsGoodEvent e → Step old e answer new → old.situation.aerodrome.carry ≡ true
     → waits_in old.situation c ≡ true → StaysInLine c old.situation new.situation →
     Counted old.situation.aerodrome.k c old.situation g
     → Counted old.situation.aerodrome.k c new.situation (g + passing_in_step old e answer c)
-step_counted old new e (Some r) c g sound good step carry here line so_far =
-    none_more _ c new.situation g 0 refl (rw step.effect so_far)
+step_counted old new e (Some r) c g sound good step carry here line so_far = grind (arith, none_more)
 step_counted old new e None c g sound good step carry here line so_far =
     let is = step.effect.changed in
     rw is (event_counted _ _ c g e sound.situation (λ t q. (rw q at sound.shown).0.feasible) carry here so_far good
@@ -214,8 +189,6 @@ run_counted : (old : State) (events : List Event) (answers : List Answered) (c :
     → waits_in old.situation c ≡ true → StaysInLineThrough c old answers →
     Counted old.situation.aerodrome.k c old.situation g
     → g + passing_in_run old events answers c ≤ old.situation.aerodrome.k
-run_counted old [] answers c g sound carry good run here line so_far = omega arith
-run_counted old (e ∷ events) [] c g sound carry good run here line so_far = absurd run
 run_counted old (e ∷ events) (a ∷ answers) c g sound carry good run here line so_far =
     let next = step_keeps_sound old a.state e a.answer sound (All-head IsGoodEvent e _ good) run.0 in
     let same = step_aerodrome old _ e _ run.0 in
@@ -226,6 +199,7 @@ run_counted old (e ∷ events) (a ∷ answers) c g sound carry good run here lin
     (All-tail IsGoodEvent e _ good) run.1 line.0.waits line.1 now' in
     let k = ap (λ (x : Aerodrome). x.k) same in
     omega arith
+run_counted old events answers c g sound carry good run here line so_far = grind arith
 
 -- a count that each has is no more than k
 least_low : (s : Situation) → IsSound s → (c : Callsign) (g : ℕ) → waits_in s c ≡ true → ArePassedAtLeast g s c
@@ -245,8 +219,7 @@ step_counts old new e answer c g sound carry good step here line least =
     record { few = r.0; counted = r.1 }
 
 pub few_pass_later : FewPassLaterLaw
-few_pass_later old events answers c g sound carry good run here line least =
-    run_counted old _ _ c g sound carry good run here line (least_low _ sound.situation c g here least, least)
+few_pass_later old events answers c g sound carry good run here line least = search (run_counted, least_low)
 
 pub few_pass : FewPassLaw
 few_pass old events answers c sound carry good run here line =
@@ -318,11 +291,7 @@ event_exactly s plan e c sound feasible carry low ok =
 step_exactly : (old new : State) (e : Event) (answer : Option Refusal) (c : Callsign) → IsSoundState old
     → Step old e answer new → old.situation.aerodrome.carry ≡ true → old.situation.aerodrome.k ≤ 1
     → CountsExactly old e answer new c
-step_exactly old new e (Some r) c sound step carry low f g here later =
-    omega (arith, ap (λ (z : Active). z.passed) (same_Some f g (cc)))
-step_exactly old new e None c sound step carry low f g here later =
-    event_exactly old.situation old.plan e c sound.situation
-    (λ t q. (rw q at sound.shown).0.feasible) carry low (cc) f g here (cc)
+step_exactly old new e answer c sound step carry low f g here later = grind (arith, same_Some, event_exactly)
 
 pub few_pass_anyone : FewPassAnyoneLaw
 few_pass_anyone old [] answers c f sound carry low good run here waited =

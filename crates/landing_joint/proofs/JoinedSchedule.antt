@@ -37,12 +37,7 @@ module _ (s : Situation) (sound : IsSound s) where
   pub rank_is : (i : ℕ) → In i (numbers_of s.active)
       → rank (map (λ (b : Active). b.flight) (waiting s)) (numbered s.active i).flight ≡ rank_in
       (comes_before s.active) (numbered_situation s).waiting i
-  rank_is i m =
-      let w = (numbered_situation s).waiting in
-      let f = (numbered s.active i).flight in
-      let e = ap (count_by (λ g. is_lt (arrival_cmp g f))) waiting_are ∙ count_by_map _ _ w
-      ∙ count_by_agree _ _ w (λ j k. sym (comes_is s sound j i (in_filter _ j _ k).0 m)) in
-      omega arith
+  rank_is i m = grind (arith, waiting_are, count_by_map, count_by_agree, comes_is, in_filter)
 
   second_by : (v : Schedule) (r n : ℕ) → r ≡ suc n → get_or v (r - 1) 0 ≡ of_rank 0 v (suc n)
   second_by v r n e = ap (λ k. get_or v k 0) (omega arith)
@@ -50,11 +45,7 @@ module _ (s : Situation) (sound : IsSound s) where
   second_is : (v : Schedule) (i : ℕ) → In i (numbers_of s.active) → lists'.joined_second s v (numbered s.active i) ≡
       cond (waits_at s.active i) (of_rank 0 v (rank_in (comes_before s.active) (numbered_situation s).waiting i))
       ((numbered_situation s).frozen_at i)
-  second_is v i m = go (numbered s.active i).frozen (second_by v _ _ (rank_is i m))
-    where
-      go : (o : Option ℕ) {x y : ℕ} → x ≡ y → unwrap_or o x ≡ cond (is_none o) y (unwrap_or o 0)
-      go None e = e
-      go (Some u) e = refl
+  second_is v i m = grind (arith, second_by, rank_is)
 
   -- both say one schedule
   pub joined_in_words : (v : Schedule) → lists'.joined s v ≡ joined s v

@@ -64,21 +64,17 @@ first_come all = record {
 -- ---- one flight
 
 pub kept_of : (o : Option ℕ) (h x : ℕ) → not (is_none o) ≡ true → MatchOption o (h ≤ x) (λ u. x ≡ u) → x ≡ unwrap_or o 0
-kept_of None h x e m = absurd (false≢true e)
-kept_of (Some u) h x e m = m
+kept_of o h x e m = grind (arith, false≢true)
 
 pub late_of : (o : Option ℕ) (h x : ℕ) → is_none o ≡ true → MatchOption o (h ≤ x) (λ u. x ≡ u) → h ≤ x
-late_of None h x e m = m
-late_of (Some u) h x e m = absurd (false≢true e)
+late_of o h x e m = grind (arith, false≢true)
 
 of_kept : (o : Option ℕ) (h x : ℕ) → (is_none o ≡ true → h ≤ x) → (not (is_none o) ≡ true → x ≡ unwrap_or o 0)
     → MatchOption o (h ≤ x) (λ u. x ≡ u)
-of_kept None h x f g = f refl
-of_kept (Some u) h x f g = g refl
+of_kept o h x f g = grind arith
 
 pub some_of : (o : Option ℕ) → not (is_none o) ≡ true → o ≡ Some (unwrap_or o 0)
-some_of None e = absurd (false≢true e)
-some_of (Some u) e = refl
+some_of o e = grind (arith, false≢true)
 
 module _ (s : Situation) (sound : IsSound s) where
   pub among : (i : ℕ) → In i (numbers.active (numbered_situation s)) → In i (numbers_of s.active)
@@ -88,37 +84,19 @@ module _ (s : Situation) (sound : IsSound s) where
   ]
 
   pub all_among : (i : ℕ) → In i (numbers_of s.active) → In i (numbers.active (numbered_situation s))
-  all_among i m = append_in i _ _
-      (elim (cases_Bool _) [
-        | inl w ↦ inr (filter_in (waits_at s.active) i _ m w)
-        | inr w ↦ inl (filter_in _ i _ m (ap not w))
-      ])
+  all_among i m = grind (arith, append_in, cases_Bool, filter_in, not)
 
   -- different flights have different callsigns
   pub callsigns_differ : (i j : ℕ) → In i (numbers_of s.active) → In j (numbers_of s.active)
       → i ≢ j → (numbered s.active i).flight.callsign ≢ (numbered s.active j).flight.callsign
-  callsigns_differ i j mi mj ne e =
-      let bj = in_numbers 0 _ j mj in
-      elim (cases_order i j) [
-        | inl q ↦ ne q
-        | inr (inl lt) ↦ sound.callsigns i j nobody lt (omega (arith, bj.1)) e
-        | inr (inr lt) ↦ sound.callsigns j i nobody lt (omega (arith, (in_numbers 0 _ i mi).1)) (sym e)
-      ]
+  callsigns_differ i j mi mj ne e = grind (arith, in_numbers, cases_order)
 
   -- among the flights the order is that of arrival
   pub comes_is : (i j : ℕ) → In i (numbers_of s.active) → In j (numbers_of s.active)
       → comes_before s.active i j ≡ is_lt (arrival_cmp (numbered s.active i).flight (numbered s.active j).flight)
-  comes_is i j mi mj = elim (cases_eq i j) [
-    | inl e ↦ subst (λ x. comes_before s.active i x ≡ is_lt
-        (arrival_cmp (numbered s.active i).flight (numbered s.active x).flight)) e (itself i)
-    | inr ne ↦ ap is_lt (then_not_equal _ _ (λ q. callsigns_differ i j mi mj ne
-        (level-callsign (numbered s.active i).flight (numbered s.active j).flight q)))
-  ]
-    where
-      itself : (x : ℕ) → comes_before s.active x x ≡ is_lt
-          (arrival_cmp (numbered s.active x).flight (numbered s.active x).flight)
-      itself x = ap is_lt (tied_itself (number_total s.active) x)
-          ∙ sym (ap is_lt (tied_itself arrival_total (numbered s.active x).flight))
+  comes_is i j mi mj =
+      grind (arith, cases_eq, then_not_equal, callsigns_differ, level-callsign, tied_itself, number_total,
+          arrival_total)
 
   module _ (t : Schedule) (long : length t ≡ length s.active) where
     -- ranks and places among the waiting
@@ -128,23 +106,11 @@ module _ (s : Situation) (sound : IsSound s) where
     rank_is : (i : ℕ) → In i (numbers_of s.active)
         → rank_among (map (landing_at s.active t) (numbered_situation s).waiting) (landing_at s.active t i) ≡ rank_in
         (comes_before s.active) (numbered_situation s).waiting i
-    rank_is i m =
-        let w = (numbered_situation s).waiting in
-        let f = (numbered s.active i).flight in
-        let e : count_by (λ g. is_lt (arrival_cmp g f))
-        (map (λ (g : Landing). g.flight) (map (landing_at s.active t) w)) ≡ count_by
-        (λ j. comes_before s.active j i) w = ap (count_by (λ g. is_lt (arrival_cmp g f))) (map_map _ _ w)
-        ∙ count_by_map _ _ w ∙ count_by_agree _ _ w (λ j k. sym (comes_is j i (in_filter _ j _ k).0 m)) in
-        omega arith
+    rank_is i m = grind (arith, landing_at, map_map, count_by_map, count_by_agree, comes_is, in_filter)
 
     place_is : (i : ℕ) → place (map (landing_at s.active t) (numbered_situation s).waiting)
         (landing_at s.active t i) ≡ place_in (second_of t) (numbered_situation s).waiting i
-    place_is i =
-        let w = (numbered_situation s).waiting in
-        let e : count_by (λ (g : Landing). nat_lt g.second (second_of t i)) (map (landing_at s.active t) w) ≡ count_by
-        (λ j. nat_lt (second_of t j) (second_of t i)) w =
-        count_by_map _ _ w in
-        omega arith
+    place_is i = omega (arith, landing_at, count_by_map)
 
     pub passed_low : (i : ℕ) → In i (numbers_of s.active) → (numbered s.active i).passed ≤ s.aerodrome.k
     passed_low i m = sound.passed i nobody (omega (arith, (in_numbers 0 _ i m).1))

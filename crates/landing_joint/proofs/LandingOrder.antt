@@ -87,9 +87,7 @@ pub place-moved : (xs ys : List Landing) → IsPermutation xs ys → (f : Landin
 place-moved xs ys h f = ap (λ n. 1 + n) (count-moved _ xs ys h)
 
 pub rank-moved : (xs ys : List Landing) → IsPermutation xs ys → (f : Landing) → rank_among xs f ≡ rank_among ys f
-rank-moved xs ys h f =
-    let flight : Landing → Flight = λ g. g.flight in
-    ap (λ n. 1 + n) (count-moved _ _ _ (IsPermutation-map flight xs ys h))
+rank-moved xs ys h f = grind (arith, count-moved, IsPermutation-map)
 
 pub shift-moved : (k : ℕ) (xs ys : List Landing) → IsPermutation xs ys → KeepsShift k xs → KeepsShift k ys
 shift-moved k xs ys h a = All-permutation (IsShiftKept k ys) xs ys h (λ i d lt.
@@ -119,11 +117,9 @@ pub greatest_insert : (f : Landing) (fs : List Landing)
     → greatest (map (λ (g : Landing). g.second) (insert_landing f fs)) ≡ greatest
     (map (λ (g : Landing). g.second) (f ∷ fs))
 greatest_insert f [] = refl
-greatest_insert f (x ∷ fs) = let h =
-    greatest_insert f fs in elim (cases_Bool (nat_lt x.second f.second)) [ inl e ↦ rw e (omega arith) | inr e ↦ rw e ]
+greatest_insert f (x ∷ fs) = grind (arith, cases_Bool, greatest_insert f fs)
 
 pub cost_order : (o : Objective) (fs : List Landing) → cost o (in_landing_order fs) ≡ cost o fs
 cost_order Makespan [] = refl
-cost_order Makespan (f ∷ fs) = let a = greatest_insert f (in_landing_order fs) in let b =
-    cost_order Makespan fs in omega arith
+cost_order Makespan (f ∷ fs) = search (greatest_insert, cost_order Makespan fs)
 cost_order Delay fs = sum_by-IsPermutation _ fs _ (order_permutes fs)

@@ -13,6 +13,4 @@ landing_at all t i = landing (numbered all i) (second_of t i)
 pub landings_are : (all : List Active) (t : Schedule) → length t ≡ length all
     → landings all t ≡ map (landing_at all t) (numbers_of all)
 landings_are [] t e = refl
-landings_are (a ∷ all) [] e = absurd (omega arith)
-landings_are (a ∷ all) (u ∷ t) e = ap (λ l. landing a u ∷ l) (landings_are all t (omega arith)
-    ∙ sym (map_numbers _ 0 _))
+landings_are (a ∷ all) t e = grind (arith, map_numbers, landings_are all)

@@ -46,10 +46,7 @@ is_found s sound c f m e = elim (cases_option _) [
 ]
 
 pub some_flight : (s : Situation) (c : Callsign) → waits_in s c ≡ true → (f : Active) × (waiting_flight s c ≡ Some f)
-some_flight s c e = elim (cases_option _) [
-  | inl q ↦ absurd (false≢true (sym (ap is_some q) ∙ e))
-  | inr w ↦ w
-]
+some_flight s c e = grind (arith, cases_option, false≢true)
 
 -- ---- a clock event, by any feasible plan
 
@@ -160,9 +157,7 @@ module _ (s : Situation) (sound : IsSound s) (t : Schedule) (ok : IsFeasible s t
       -- who does not stand behind by number does not by arrival
       behind_are : (x : ℕ) → In x ns.waiting
           → comes_before s.active i x ≡ is_lt (arrival_cmp f.flight (numbered s.active x).flight)
-      behind_are x m =
-          comes_is s sound i x (stays i n.stays).0 (in_filter _ x _ m).0
-          ∙ ap (λ (a : Active). is_lt (arrival_cmp a.flight (numbered s.active x).flight)) (sym n.was)
+      behind_are x m = grind (arith, comes_is, stays, in_filter)
 
       least_numbers : (x : ℕ) → In x ns.waiting → comes_before s.active i x ≡ false → g ≤ (numbered s.active x).passed
       least_numbers x m ahead = all_at (λ (x : Active). is_lt (arrival_cmp f.flight x.flight) ≡ false
@@ -207,9 +202,7 @@ module _ (s : Situation) (sound : IsSound s) (t : Schedule) (ok : IsFeasible s t
         omega arith
 
 pub clock_counts : ClockCountsLaw
-clock_counts s t now c f g sound carry ok e here later least =
-    clock_counts_at s sound t ok now (forth_of _ now _ e) carry c f here later g least
+clock_counts s t now c f g sound carry ok e here later least = search (clock_counts_at, forth_of)
 
 pub clock_counts_exactly : ClockCountsExactlyLaw
-clock_counts_exactly s t now c f g sound carry low ok e here later =
-    counts_exactly s sound t ok now (forth_of _ now _ e) carry c f here (ap is_some later) low g later
+clock_counts_exactly s t now c f g sound carry low ok e here later = grind (arith, counts_exactly, forth_of)

@@ -1,4 +1,5 @@
 -- The problem of a situation is a problem of the theory, and its feasible lists are the feasible maps.
+use Rattle.std.proofs.lemmas.Grind.{common_steps}
 use Rattle.std.proofs.Common.{◌≡◌, ℕ, zero, suc, ◌+◌, ◌-◌, ◌*◌, ◌<◌, ◌≤◌, ◌⊎◌, inl, inr, List, [], ◌∷◌, length, get_or}
 use Rattle.std.proofs.Common.{map, filter, cond, Bool, not, ◌&&◌, nat_le, zero-le, le_antisymm, add-one, arith, refl}
 use Rattle.std.proofs.Common.{sym, ap, ap₂, subst, ◌∙◌}
@@ -47,11 +48,7 @@ use Rattle.std.specs.Cmp.{both_ways}
 sum_parts : (g : ℕ → ℕ) (p : ℕ → Bool) (xs : List ℕ)
     → sum_by g xs ≡ sum_by g (filter (λ x. not (p x)) xs) + sum_by g (filter p xs)
 sum_parts g p [] = omega arith
-sum_parts g p (x ∷ xs) = let h = sum_parts g p xs in
-    elim (cases_Bool (p x)) [
-      | inl e ↦ rw e (omega (arith, sum_by-cons g))
-      | inr e ↦ rw e (omega (arith, sum_by-cons g))
-    ]
+sum_parts g p (x ∷ xs) = grind (arith, cases_Bool, sum_by-cons, sum_parts g p xs)
 
 filter_numbers : (p : ℕ → Bool) (b n : ℕ) → filter p (numbers_from (suc b) n) ≡ map suc
     (filter (λ i. p (suc i)) (numbers_from b n))
@@ -67,20 +64,7 @@ frozen_are : (all : List Active) → filter_map (λ a. option_map (landing a) a.
     (λ i. landing (numbered all i) (unwrap_or (numbered all i).frozen 0))
     (filter (λ i. not (waits_at all i)) (numbers_of all))
 frozen_are [] = refl
-frozen_are (a ∷ all) =
-    let L = λ (i : ℕ). landing (numbered (a ∷ all) i) (unwrap_or (numbered (a ∷ all) i).frozen 0) in
-    let rest = frozen_are all ∙ sym (ap (map L) (filter_numbers _ 0 (length all)) ∙ map_map L suc _) in
-    go _ refl rest
-  where
-    go : (o : Option ℕ) → a.frozen ≡ o → filter_map (λ b. option_map (landing b) b.frozen) all ≡ map
-        (λ i. landing (numbered (a ∷ all) i) (unwrap_or (numbered (a ∷ all) i).frozen 0))
-        (filter (λ i. not (waits_at (a ∷ all) i)) (numbers_from 1 (length all)))
-        → cons_option (option_map (landing a) o) (filter_map (λ b. option_map (landing b) b.frozen) all) ≡ map
-        (λ i. landing (numbered (a ∷ all) i) (unwrap_or (numbered (a ∷ all) i).frozen 0))
-        (cond (not (is_none o)) (0 ∷ filter (λ i. not (waits_at (a ∷ all) i)) (numbers_from 1 (length all)))
-        (filter (λ i. not (waits_at (a ∷ all) i)) (numbers_from 1 (length all))))
-    go None q e = e
-    go (Some u) q e = cc
+frozen_are (a ∷ all) = grind (arith, filter_numbers, map_map, not, frozen_are all)
 
 module _ (s : Situation) (sound : IsSound s) (p : lists'.Problem) (of : lists'.IsProblemOf s p) where
   abbrev ns : numbers.NumberedSituation
@@ -115,14 +99,7 @@ module _ (s : Situation) (sound : IsSound s) (p : lists'.Problem) (of : lists'.I
       (zip_at _ _ _ zipped i nobody _ (omega arith))
 
   rank_cases : (r : ℕ) → IsRank (length p.flights) r ⊎ ((numbered s.active (at r) ≡ nobody) × (fl r ≡ no_waiting))
-  rank_cases zero = inr (get_past _ (length s.active) _ (omega arith), refl)
-  rank_cases (suc i) = elim (cases_lt i (length p.flights)) [
-    | inl lt ↦ inl (omega arith, omega arith)
-    | inr le ↦ (let l = long_is in inr (
-      ap (numbered s.active) (get_past R i _ (omega arith)) ∙ get_past _ (length s.active) nobody (omega arith),
-      get_past _ i _ le,
-    ))
-  ]
+  rank_cases r = grind (arith, get_past, cases_lt, long_is)
 
   in_waiting : (r : ℕ) → IsRank (length p.flights) r → In (at r) ns.waiting
   in_waiting r q = let l = long_is in sorted_in s.active _ _ (at_in _ R r q.0 (omega arith))
@@ -131,59 +108,32 @@ module _ (s : Situation) (sound : IsSound s) (p : lists'.Problem) (of : lists'.I
   among r q = (in_filter _ _ _ (in_waiting r q)).0
 
   category_is : (r : ℕ) → (fl r).category ≡ (numbered s.active (at r)).flight.category
-  category_is r = elim (rank_cases r) [
-    | inl q ↦ (waiting_of r q).category
-    | inr e ↦ ap (λ (w : lists'.Waiting). w.category) e.1 ∙ sym (ap (λ (a : Active). a.flight.category) e.0)
-  ]
+  category_is r = grind (arith, rank_cases, waiting_of)
 
   passed_is : (r : ℕ) → (fl r).passed ≡ (numbered s.active (at r)).passed
-  passed_is r = elim (rank_cases r) [
-    | inl q ↦ (waiting_of r q).passed
-    | inr e ↦ ap (λ (w : lists'.Waiting). w.passed) e.1 ∙ sym (cc)
-  ]
+  passed_is r = grind (arith, rank_cases, waiting_of)
 
   open_is : (r u : ℕ) → list_any (is_within u) (fl r).open_spans ≡ (nat_le u last_second
       && is_open (numbered s.active (at r)).flight.windows s.closures u)
-  open_is r u = elim (rank_cases r) [
-    | inl q ↦
-        (let b = in_numbers 0 _ _ (among r q) in
-        let o = is_open (numbered s.active (at r)).flight.windows s.closures u in
-        (waiting_of r q).open_spans.same u ∙ both_ways o _
-        (λ e. and_from _ o (open_low _ _ u ((sound.flights (at r) nobody (omega (arith, b.1))).windows.spans) e) e)
-        (λ e. (and_parts (nat_le u last_second) o e).1))
-    | inr e ↦ ap (λ (w : lists'.Waiting). list_any (is_within u) w.open_spans) e.1
-        ∙ sym (ap (λ (a : Active). nat_le u last_second && is_open a.flight.windows s.closures u) e.0
-        ∙ and_right _ _ refl)
-  ]
+  open_is r u =
+      grind (arith, common_steps, rank_cases, in_numbers, among, waiting_of, and_from, open_low, and_parts, and_right)
 
   before_is : (q r : ℕ) → IsRank (length p.flights) q → IsRank (length p.flights) r
       → must_precede p.pairs q r ≡ ns.lists (at q) (at r)
-  before_is zero r iq ir = absurd (omega (arith, iq.0))
-  before_is (suc i) zero iq ir = absurd (omega (arith, ir.0))
   before_is (suc i) (suc j) iq ir =
       let l = long_is in
       let c = (rw ranked_is at of.predecessors) i j (numbered s.active (at (suc i))) (numbered s.active (at (suc j)))
       (slice_map _ R i _ (omega arith)) (slice_map _ R j _ (omega arith)) in
       rw (add-one i) at (rw (add-one j) at c)
+  before_is q r iq ir = grind arith
 
   apart_is : (q r : ℕ) → separation p.table (fl q).category (fl r).category ≡ ns.apart (at q) (at r)
-  apart_is q r = ap (λ t. separation t (fl q).category (fl r).category) of.table
-      ∙ ap₂ (λ (x y : Category). separation s.aerodrome.table x y) (category_is q) (category_is r)
+  apart_is q r = grind (arith, category_is)
 
   start_of : (r : ℕ) → ((p.last ≡ None) × ((i : ℕ) → In i ns.frozen → ⊥))
       ⊎ ((i : ℕ) × In i ns.frozen × (after_last p.table p.last (fl r).category ≡ ns.frozen_at i + ns.apart i (at r))
       × ((j : ℕ) → In j ns.frozen → ns.frozen_at j ≤ ns.frozen_at i))
-  start_of r = elim (last_frozen_is s sound) [
-    | inl e ↦ inl (of.last ∙ e.0, e.1)
-    | inr w ↦ inr (
-      w.0,
-      w.1,
-      ap₂ (λ t o. after_last t o (fl r).category) of.table (of.last ∙ w.2)
-          ∙ ap (λ (c : Category). ns.frozen_at w.0 + separation s.aerodrome.table
-          (numbered s.active w.0).flight.category c) (category_is r),
-      w.3,
-    )
-  ]
+  start_of r = grind (arith, last_frozen_is, category_is)
 
   one_latest : (x i : ℕ) → In x ns.frozen → In i ns.frozen
       → ((f : ℕ) → In f ns.frozen → ns.frozen_at f ≤ ns.frozen_at x)
@@ -227,10 +177,7 @@ module _ (s : Situation) (sound : IsSound s) (p : lists'.Problem) (of : lists'.I
   }
 
   pub passed_low' : (r : ℕ) → IsRank (length p.flights) r → (fl r).passed ≤ p.k
-  passed_low' r q =
-      let b = in_numbers 0 _ _ (among r q) in
-      let c = passed_is r in
-      omega arith
+  passed_low' r q = grind (arith, common_steps, in_numbers, among, passed_is)
 
   -- ---- joined with the frozen
 
@@ -238,15 +185,10 @@ module _ (s : Situation) (sound : IsSound s) (p : lists'.Problem) (of : lists'.I
       → second_of (joined s v) i ≡ cond (waits_at s.active i)
       (of_rank 0 v (rank_in (comes_before s.active) ns.waiting i))
       (ns.frozen_at i)
-  joined_at v i m =
-      let b = in_numbers 0 _ i m in
-      let F = λ (j : ℕ). cond _ (of_rank 0 v (rank_in (comes_before s.active) ns.waiting j)) (ns.frozen_at j) in
-      numbers_get F 0 0 _ i (omega (arith, b.1)) ∙ ap F (omega arith)
+  joined_at v i m = grind (arith, in_numbers, numbers_get)
 
   pub joined_frozen : (v : Schedule) (i : ℕ) → In i ns.frozen → second_of (joined s v) i ≡ ns.frozen_at i
-  joined_frozen v i m =
-      let w = in_filter _ i _ m in
-      joined_at v i w.0 ∙ rw (not-true _ w.1)
+  joined_frozen v i m = grind (arith, in_filter, joined_at, not-true)
 
   pub joined_rank : (v : Schedule) (r : ℕ) → IsRank (length p.flights) r → second_of (joined s v) (at r) ≡ of_rank 0 v r
   joined_rank v r q =
@@ -257,10 +199,8 @@ module _ (s : Situation) (sound : IsSound s) (p : lists'.Problem) (of : lists'.I
   -- a feasible list gives a feasible schedule
   pub list_gives_schedule : (v : Schedule) → lists'.IsFeasibleList p v → IsFeasible s (joined s v)
   list_gives_schedule v f =
-      let T = second_of (joined s v) in
-      let g = feasible_agree _ _ _ (λ r q. sym (joined_rank v r q)) (list_feasible p v f) in
-      numbered_feasible s sound _ (numbers_long _ 0 _) (feasible_problem ns _ _
-      (sound_numbered s sound) problem_of T (joined_frozen v) g)
+      search (feasible_agree, joined_rank, list_feasible, numbered_feasible, numbers_long, feasible_problem,
+          sound_numbered, problem_of, joined_frozen)
 
   -- ---- and back
 
@@ -269,8 +209,7 @@ module _ (s : Situation) (sound : IsSound s) (p : lists'.Problem) (of : lists'.I
 
   by_rank_at : (t : Schedule) (r : ℕ) → IsRank (length p.flights) r
       → of_rank 0 (seconds_by_rank t) r ≡ second_of t (at r)
-  by_rank_at t zero q = omega arith
-  by_rank_at t (suc i) q = numbers_get _ 0 0 _ i (omega arith) ∙ ap (λ j. second_of t (at (suc j))) (omega arith)
+  by_rank_at t r q = grind (arith, numbers_get)
 
   pub joined_long : (v : Schedule) → length (joined s v) ≡ length s.active
   joined_long v = numbers_long _ 0 _
@@ -308,9 +247,8 @@ module _ (s : Situation) (sound : IsSound s) (p : lists'.Problem) (of : lists'.I
       greatest_bound xs m (λ i lt. h (suc i) (omega arith)) in omega arith
 
   greatest_at : (xs : List ℕ) (i : ℕ) → i < length xs → get_or xs i 0 ≤ greatest xs
-  greatest_at [] i lt = absurd (omega arith)
-  greatest_at (x ∷ xs) zero lt = omega arith
-  greatest_at (x ∷ xs) (suc i) lt = omega (arith, greatest_at xs i (omega arith))
+  greatest_at [] i lt = grind arith
+  greatest_at (x ∷ xs) i lt = grind (arith, greatest_at xs)
 
   map_bound : (F : ℕ → ℕ) (xs : List ℕ) (m : ℕ) → ((i : ℕ) → In i xs → F i ≤ m) → greatest (map F xs) ≤ m
   map_bound F [] m h = zero-le
@@ -318,8 +256,7 @@ module _ (s : Situation) (sound : IsSound s) (p : lists'.Problem) (of : lists'.I
 
   map_at : (F : ℕ → ℕ) (xs : List ℕ) (i : ℕ) → In i xs → F i ≤ greatest (map F xs)
   map_at F [] i m = absurd m
-  map_at F (x ∷ xs) i (inl e) = omega (arith, ap F e)
-  map_at F (x ∷ xs) i (inr k) = omega (arith, map_at F xs i k)
+  map_at F (x ∷ xs) i m = grind (arith, map_at F xs)
 
   module _ (v : Schedule) (f : lists'.IsFeasibleList p v) where
     T : ℕ → ℕ
@@ -393,18 +330,8 @@ module _ (s : Situation) (sound : IsSound s) (p : lists'.Problem) (of : lists'.I
             ∙ ap lists'.list_delay (sym (get_or-zip _ v i (no_waiting, 0) (omega arith) (omega arith)))
 
     pub same_objective : objective s (joined s v) ≡ lists'.list_objective p v
-    same_objective = ap (cost s.aerodrome.objective) (landings_are _ _ (joined_long v)) ∙ go _ of.objective of.base
-      where
-        go : (o : Objective) → p.objective ≡ o → p.base ≡ lists'.frozen_cost o (frozen_landings s)
-            → cost o (map (landing_at s.active (joined s v)) (numbers_of s.active)) ≡ lists'.list_cost p.objective p v
-        go Delay e b = delay_all ∙ ap (λ k. k + sum_by lists'.list_delay (zip p.flights v)) (sym b)
-            ∙ ap (λ o. lists'.list_cost o p v) (sym e)
-        go Makespan e b = ap greatest (map_map _ _ _) ∙ by v refl ∙ ap (λ o. lists'.list_cost o p v) (sym e)
-          where
-            by : (xs : List ℕ) → v ≡ xs
-                → greatest (map (second_of (joined s v)) (numbers_of s.active)) ≡ lists'.list_cost Makespan p v
-            by [] q = makespan_none q ∙ sym (cc)
-            by (x ∷ xs) q = makespan_some x xs q ∙ ap greatest q ∙ sym (cc)
+    same_objective =
+        grind (arith, landings_are, joined_long, landing_at, delay_all, map_map, makespan_none, makespan_some)
 
   -- the best lists give the best schedules
   pub best_list_schedule : (v : Schedule) → lists'.IsBestList p v → IsBest s (joined s v)

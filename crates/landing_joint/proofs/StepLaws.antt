@@ -29,20 +29,15 @@ use Rattle.landing_joint.proofs.FlightSteps.{cancelled, re_estimated, added}
 fewer_shut : (span : Span) (cs : List Span) (t : ℕ) → list_any (is_shut t) cs ≡ false
     → list_any (is_shut t) (without_first (same_span span) cs) ≡ false
 fewer_shut span [] t e = e
-fewer_shut span (c ∷ cs) t e =
-    let p = or_parts _ (list_any (is_shut t) cs) e in
-    elim (cases_Bool (same_span span c)) [ inl q ↦ rw q p.1 | inr q ↦ rw (q, p.0) (fewer_shut _ cs t p.1) ]
+fewer_shut span (c ∷ cs) t e = grind (arith, or_parts, cases_Bool, fewer_shut span cs)
 
 fewer_closed : (span : Span) (cs : List Span) → length (without_first (same_span span) cs) ≤ length cs
 fewer_closed span [] = omega arith
-fewer_closed span (c ∷ cs) = let h = fewer_closed span cs in
-    elim (cases_Bool (same_span span c)) [ inl e ↦ rw e (omega arith) | inr e ↦ rw e (omega arith) ]
+fewer_closed span (c ∷ cs) = grind (arith, cases_Bool, fewer_closed span cs)
 
 open_where : (windows cs ds : List Span) (t : ℕ) → (list_any (is_shut t) cs ≡ false → list_any (is_shut t) ds ≡ false)
     → is_open windows cs t ≡ true → is_open windows ds t ≡ true
-open_where windows cs ds t h e =
-    let p = and_parts (list_any (is_within t) windows) (not (list_any (is_shut t) cs)) e in
-    rw (p.0, h (not-true _ p.1))
+open_where windows cs ds t h e = grind (arith, and_parts, not, not-true)
 
 other_closures : (s new : Situation) → IsSound s → new.aerodrome ≡ s.aerodrome → new.active ≡ s.active
     → new.clock ≡ s.clock → length new.closures ≤ most_closures →
@@ -65,9 +60,7 @@ other_closures s new h same actives clocks few opened =
 
 reopened : (s : Situation) (plan : Option Schedule) (span : Span) → IsSound s
     → IsSound (situation_after s plan (Reopen span))
-reopened s plan span h =
-    other_closures s _ h refl refl refl (omega (arith, fewer_closed span s.closures, h.few_closures))
-    (λ f m. open_where _ _ _ f.second (fewer_shut _ _ f.second) ((kept s h).opened f m))
+reopened s plan span h = grind (arith, other_closures, fewer_closed, open_where, fewer_shut, kept)
 
 -- ---- close
 
@@ -78,11 +71,7 @@ any_push p cs c e n = list_any-append p cs _ ∙ rw (e, n)
 close_parts : (found : Option Landing) (n : ℕ)
     → (if is_some found then option_map (λ (g : Landing). CoversFrozen g.flight.callsign g.second) found
     else (if nat_le most_closures n then Some TooManyClosures else None)) ≡ None → (found ≡ None) × (n < most_closures)
-close_parts (Some g) n e = absurd (cc)
-close_parts None n e = elim (cases_lt n most_closures) [
-  | inl lt ↦ (refl, lt)
-  | inr le ↦ (let w : Some TooManyClosures ≡ None = rw (le-leb _ n le) at e in absurd (cc))
-]
+close_parts found n e = grind (arith, cases_lt, le-leb)
 
 closed : (s : Situation) (plan : Option Schedule) (span : Span) → IsSound s → refusal s (Close span) ≡ None
     → IsSound (situation_after s plan (Close span))
@@ -99,8 +88,7 @@ event_keeps_sound s plan (Estimate c eta windows) sound good feasible ok = re_es
 event_keeps_sound s plan (Cancel c) sound good feasible ok = cancelled s plan c sound
 event_keeps_sound s plan (Add f) sound good feasible ok = added s plan f sound good ok
 event_keeps_sound s plan (Close span) sound good feasible ok = closed s plan _ sound ok
-event_keeps_sound s plan (Reopen span) sound good feasible ok = reopened s plan _ sound
-event_keeps_sound s plan (Clock now) sound good feasible ok = clock_keeps_sound s plan now sound feasible ok
+event_keeps_sound s plan x sound good feasible ok = search (reopened, clock_keeps_sound)
 
 pub step_keeps_sound : StepKeepsSoundLaw
 step_keeps_sound old new e None sound good step = record {
@@ -111,10 +99,8 @@ step_keeps_sound old new e None sound good step = record {
 step_keeps_sound old new e (Some r) sound good step = rw step.effect sound
 
 pub run_keeps_sound : RunKeepsSoundLaw
-run_keeps_sound old [] [] sound good run = λ k d lt. absurd (omega arith)
-run_keeps_sound old [] (a ∷ answers) sound good run = absurd run
-run_keeps_sound old (e ∷ events) [] sound good run = absurd run
 run_keeps_sound old (e ∷ events) (a ∷ answers) sound good run =
     let next = step_keeps_sound old a.state e a.answer sound (All-head IsGoodEvent e _ good) run.0 in
     All-cons (λ (b : Answered). IsSoundState b.state) a _ next
     (run_keeps_sound a.state events answers next (All-tail IsGoodEvent e _ good) run.1)
+run_keeps_sound old x h sound good run = grind arith

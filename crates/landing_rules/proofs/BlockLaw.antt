@@ -14,10 +14,7 @@ use Rattle.landing_rules.specs.shared.Lines.{landing_line}
 -- ---- one landing
 
 frozen_same : (a b : Bool) → frozen_word a ≡ frozen_word b → a ≡ b
-frozen_same true true e = refl
-frozen_same false false e = refl
-frozen_same true false e = cc
-frozen_same false true e = cc
+frozen_same a b e = grind arith
 
 frozen_cut : (a : Bool) → (t : Bytes) × (frozen_word a ≡ 32 ∷ t)
 frozen_cut true = (codes "frozen", refl)
@@ -52,11 +49,10 @@ line_or (l ∷ ls) = l
 landings_same : (ps qs : List ShownLanding) → AreNamed ps → AreNamed qs → map landing_words ps ≡ map landing_words qs
     → ps ≡ qs
 landings_same [] [] p q e = refl
-landings_same [] (g ∷ qs) p q e = absurd (cc e)
-landings_same (f ∷ ps) [] p q e = absurd (cc e)
 landings_same (f ∷ ps) (g ∷ qs) p q e =
     let head = landing_same f g p.0.0 q.0.0 p.0.1 q.0.1 (ap line_or e) in
     rw (head, landings_same ps qs p.1 q.1 (ap rest_of e)) refl
+landings_same ps qs p q e = cc
 
 value_same : (o : Objective) (m n : ℕ) → m < 2 ^ 64 → n < 2 ^ 64 → objective_word o ++ decimal m ≡ objective_word o
     ++ decimal n → m ≡ n
@@ -69,14 +65,7 @@ value_no_none Delay t e = let k = ap (first_or 0) e in omega (arith, k)
 
 block_same : (o : Objective) (p q : Option ShownPlan) → IsShowable p → IsShowable q → block_lines o p ≡ block_lines o q
     → p ≡ q
-block_same o None None a b e = refl
-block_same o None (Some q) a b e = absurd (value_no_none o _ (ap line_or e))
-block_same o (Some p) None a b e = absurd (value_no_none o (decimal p.value) (cc))
-block_same o (Some p) (Some q) a b e =
-    let value = value_same o _ _ a.0 b.0 (ap line_or e) in
-    let listed = landings_same _ _ a.1 b.1 (ap rest_of e) in
-    let same : p ≡ q = λ i. record { value = value i; landings = listed i } in
-    ap Some same
+block_same o p q a b e = grind (arith, value_no_none, value_same, landings_same, rest_of)
 
 -- ---- the lines of a block have no line feed
 

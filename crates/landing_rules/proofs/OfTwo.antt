@@ -8,10 +8,8 @@ use Rattle.landing_rules.specs.shared.Tests.{is_feasible-Decides}
 
 -- what holds of each list of two holds of each list that is as long as the flights are
 pub of_two : (P : Schedule → Type 0) → ((a b : ℕ) → P (a ∷ b ∷ [])) → (u : Schedule) → length u ≡ 2 → P u
-of_two P h [] e = absurd (omega arith)
-of_two P h (a ∷ []) e = absurd (omega arith)
 of_two P h (a ∷ b ∷ []) e = h a b
-of_two P h (a ∷ b ∷ c ∷ u) e = absurd (omega arith)
+of_two P h u e = cc
 
 pub best_of_two : (s : Situation) (t : Schedule) → length s.active ≡ 2 → is_feasible s t ≡ true →
     ((a b : ℕ) → is_feasible s (a ∷ b ∷ []) ≡ true → objective s t ≤ objective s (a ∷ b ∷ [])) → IsBest s t

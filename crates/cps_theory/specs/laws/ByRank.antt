@@ -10,8 +10,7 @@ use Rattle.std.proofs.lemmas.List.Sorted.{IsPermutation-to_front}
 use Rattle.cps_theory.specs.RankLists.{In, IsRank, Ordered, of_rank, upto}
 
 at_suc : {X : Type 0} (d x : X) (xs : List X) (r : ℕ) → 1 ≤ r → of_rank d (x ∷ xs) (suc r) ≡ of_rank d xs r
-at_suc d x xs zero one = absurd (omega arith)
-at_suc d x xs (suc i) one = refl
+at_suc d x xs r one = grind arith
 
 upto_last : {X : Type 0} (f : ℕ → X) (n : ℕ) → map f (upto (suc n)) ≡ map (λ r. f (suc r)) (upto n) ++ f 1 ∷ []
 upto_last f zero = refl
@@ -30,10 +29,8 @@ ranks_permute d (x ∷ xs) =
     (IsPermutation-cons x (map _ _) xs (ranks_permute d xs)))
 
 pub at_in : (d : ℕ) (xs : List ℕ) (r : ℕ) → 1 ≤ r → r ≤ length xs → In (of_rank d xs r) xs
-at_in d xs zero one le = absurd (omega arith)
-at_in d [] (suc i) one le = absurd (omega arith)
-at_in d (x ∷ xs) (suc zero) one le = inl refl
 at_in d (x ∷ xs) (suc (suc i)) one le = inr (at_in d xs (suc i) (omega arith) (omega arith))
+at_in d xs r one le = grind arith
 
 pub in_at : (d : ℕ) (xs : List ℕ) (x : ℕ) → In x xs → (r : ℕ) × IsRank (length xs) r × (of_rank d xs r ≡ x)
 in_at d [] x i = absurd i
@@ -43,24 +40,18 @@ in_at d (y ∷ xs) x (inr i) = let w =
 
 pub ordered_at : (before : ℕ → ℕ → Bool) (d : ℕ) (xs : List ℕ) → Ordered before xs → (q r : ℕ)
     → 1 ≤ q → q < r → r ≤ length xs → before (of_rank d xs q) (of_rank d xs r) ≡ true
-ordered_at before d xs o zero r one lt le = absurd (omega arith)
-ordered_at before d xs o (suc q) zero one lt le = absurd (omega arith)
-ordered_at before d [] o (suc q) (suc r) one lt le = absurd (omega arith)
-ordered_at before d (x ∷ xs) o (suc zero) (suc zero) one lt le = absurd (omega arith)
 ordered_at before d (x ∷ xs) o (suc zero) (suc (suc r)) one lt le =
     o.0 (get_or xs r d) (at_in d xs (suc r) (omega arith) (omega arith))
-ordered_at before d (x ∷ xs) o (suc (suc q)) (suc zero) one lt le = absurd (omega arith)
 ordered_at before d (x ∷ xs) o (suc (suc q)) (suc (suc r)) one lt le =
     ordered_at _ d xs o.1 (suc q) (suc r) (omega arith) (omega arith) (omega arith)
+ordered_at before d xs o q r one lt le = grind arith
 
 -- ---- reads
 
 pub zip_at : {X Y : Type 0} (Q : X → Y → Type 0) (xs : List X) (ys : List Y) → AllZip Q xs ys
     → (i : ℕ) (d : X) (e : Y) → i < length xs → Q (get_or xs i d) (get_or ys i e)
-zip_at Q [] ys a i d e lt = absurd (omega arith)
-zip_at Q (x ∷ xs) [] a i d e lt = absurd a
-zip_at Q (x ∷ xs) (y ∷ ys) a zero d e lt = a.0
-zip_at Q (x ∷ xs) (y ∷ ys) a (suc i) d e lt = zip_at Q xs ys a.1 i d e (omega arith)
+zip_at Q [] ys a i d e lt = grind arith
+zip_at Q (x ∷ xs) ys a i d e lt = grind (arith, zip_at Q xs)
 
 pub zip_long : {X Y : Type 0} (Q : X → Y → Type 0) (xs : List X) (ys : List Y) → AllZip Q xs ys → length xs ≡ length ys
 zip_long Q xs ys a = sym (AllZip-long Q xs ys a)

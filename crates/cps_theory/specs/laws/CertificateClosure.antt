@@ -16,8 +16,7 @@ use Rattle.cps_theory.specs.laws.PatternTests.{permits_is}
 use Rattle.cps_theory.specs.laws.UndominatedPairs.{no_worse_true}
 
 and_false : (a b : Bool) → a && b ≡ false → a ≡ true → b ≡ false
-and_false true b e p = e
-and_false false b e p = absurd (cc)
+and_false a b e p = cc
 
 no_worse_found : (q : Pair) (ps : List Pair) → list_any (λ o. no_worse o q) ps ≡ true
     → (o : Pair) × InPairs o ps × NoWorse o q
@@ -29,21 +28,15 @@ no_worse_found q (o ∷ ps) e = elim (or_cases _ _ e) [
 
 any_false : (p : Pair → Bool) (b : Pair) (ps : List Pair) → list_any p ps ≡ false → InPairs b ps → p b ≡ false
 any_false p b [] e i = absurd i
-any_false p b (o ∷ ps) e (inl s) = ap p s ∙ (or_parts _ _ e).0
-any_false p b (o ∷ ps) e (inr i) = any_false p b ps (or_parts _ _ e).1 i
+any_false p b (o ∷ ps) e i = grind (arith, or_parts, any_false p b ps)
 
 module _ {S : Type 0} (node_of : S → PatternNode) (pairs_of : S → List Pair) where
   pub covers_listed : (w : PatternNode) (q : Pair) (ss : List S) → covers node_of pairs_of ss w q ≡ true
       → (o : Pair) × IsListed node_of pairs_of ss w o × NoWorse o q
   unfolding covers
   covers_listed w q [] e = absurd (cc)
-  covers_listed w q (s ∷ ss) e = elim (or_cases _ _ e) [
-    | inl h ↦
-        let t = and_parts (is_eq (node_cmp (node_of s) w)) (list_any (λ o. no_worse o q) (pairs_of s)) h in
-        let m = no_worse_found q _ t.1 in
-        (m.0, inl (node_tie _ w (eq_of _ t.0), m.1), m.2)
-    | inr h ↦ let m = covers_listed w q ss h in (m.0, inr m.1, m.2)
-  ]
+  covers_listed w q (s ∷ ss) e =
+      search (arith, or_cases, and_parts, no_worse_found, node_tie, eq_of, covers_listed w q ss)
 
   module _ (g : OrderRules) (first : ℕ → ℕ → Option ℕ) (after : ℕ → ℕ → ℕ → ℕ) (cost : ℕ → ℕ → ℕ) (all : List S) where
     -- a node of which nothing is missed: each permitted successor of its pairs is covered

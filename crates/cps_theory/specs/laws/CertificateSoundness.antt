@@ -18,14 +18,7 @@ use Rattle.cps_theory.specs.laws.LeastObjective.{closed_certificate_optimal, clo
 none_below : (value : Pair → ℕ) (v : ℕ) (ps : List Pair) (q : Pair) → list_any (λ q. nat_lt (value q) v) ps ≡ false
     → InPairs q ps → v ≤ value q
 none_below value v [] q e i = absurd i
-none_below value v (x ∷ ps) q e i = go _ refl e i (λ f j. none_below _ v ps q f j)
-  where
-    go : (b : Bool) → ltb (value x) v ≡ b → b || list_any (λ q. nat_lt (value q) v) ps ≡ false
-        → InPairs q (x ∷ ps) → (list_any (λ q. nat_lt (value q) v) ps ≡ false → InPairs q ps → v ≤ value q)
-        → v ≤ value q
-    go true y e i more = absurd (cc)
-    go false y e (inl s) more = rw s (ltb-false _ v y)
-    go false y e (inr j) more = more e j
+none_below value v (x ∷ ps) q e i = grind (arith, ltb-false, none_below value v ps)
 
 module _ {S : Type 0} (node_of : S → PatternNode) (pairs_of : S → List Pair) where
   -- where no state passes, the one that lists a pair does not
@@ -34,33 +27,16 @@ module _ {S : Type 0} (node_of : S → PatternNode) (pairs_of : S → List Pair)
       × InPairs q (pairs_of s) × (test s ≡ false)
   unfolding element_from
   listed_passes_not test i [] e w q l = absurd l
-  listed_passes_not test i (s ∷ ss) e w q l = go _ refl e l (λ e' l'. listed_passes_not _ (i + 1) ss e' w q l')
-    where
-      go : (b : Bool) → test s ≡ b → cond b (Some i) (element_from test (i + 1) ss) ≡ None
-          → IsListed node_of pairs_of (s ∷ ss) w q
-          → (element_from test (i + 1) ss ≡ None → IsListed node_of pairs_of ss w q
-          → (t : S) × (node_of t ≡ w) × InPairs q (pairs_of t) × (test t ≡ false))
-          → (t : S) × (node_of t ≡ w) × InPairs q (pairs_of t) × (test t ≡ false)
-      go true x e l more = absurd (cc)
-      go false x e (inl h) more = (s, h.0, h.1, x)
-      go false x e (inr l) more = more e l
+  listed_passes_not test i (s ∷ ss) e w q l = grind (arith, listed_passes_not test (i + 1) ss)
 
   pub final_not_below : (n : ℕ) (value : Pair → ℕ) (v : ℕ) (ss : List S)
       → element_from (is_final_below node_of pairs_of n value v) 1 ss ≡ None → (w : PatternNode) (q : Pair)
       → w.0 ≡ n → IsListed node_of pairs_of ss w q → v ≤ value q
-  final_not_below n value v ss e w q at l =
-      let k = listed_passes_not _ 1 ss e w q l in
-      none_below _ v _ q (go _ _ (eq-eqb _ n (cc)) k.3) k.2
-    where
-      go : (a b : Bool) → a ≡ true → a && b ≡ false → b ≡ false
-      go true b x y = y
-      go false b x y = absurd (cc)
+  final_not_below n value v ss e w q at l = grind (arith, listed_passes_not, none_below, eq-eqb)
 
   pub none_final : (n : ℕ) (ss : List S) → element_from (is_final node_of pairs_of n) 1 ss ≡ None
       → (w : PatternNode) (q : Pair) → w.0 ≡ n → IsListed node_of pairs_of ss w q → ⊥
-  none_final n ss e w q at l =
-      let k = listed_passes_not _ 1 ss e w q l in
-      false≢true (sym k.3 ∙ (eq-eqb _ n (cc)))
+  none_final n ss e w q at l = grind (arith, listed_passes_not, false≢true, eq-eqb)
 
   -- ---- for a problem, the states of which miss no successor pair, whatever else they list
   module _ (p : RankedProblem) (cost : ℕ → ℕ → ℕ) (sound : SoundProblem p) (first : ℕ → ℕ

@@ -28,8 +28,7 @@ completing_undominated Completing Keeps k anti p kept = record {
 
 pub undominated_completing : (Completing Keeps : Pair → Type 0) → KeptCompleting Completing Keeps
     → (p : Pair) → UndominatedCompleting Completing p → Keeps p
-undominated_completing Completing Keeps k p u = let c =
-    k.covers p u.completes in rw (u.best c.0 (k.completes c.0 c.1) c.2) at c.1
+undominated_completing Completing Keeps k p u = grind arith
 
 module _ (W : Type 0) (Open : ℕ → ℕ → Type 0) (first : ℕ → ℕ → Option ℕ) (after : ℕ → ℕ → ℕ
     → ℕ) (cost : ℕ → ℕ → ℕ) (Legal : List ℕ → Type 0) (node : List ℕ → W) (Permitted : W → ℕ
@@ -52,10 +51,7 @@ module _ (W : Type 0) (Open : ℕ → ℕ → Type 0) (first : ℕ → ℕ → O
   newest_last xs l = net.newest_is (ranks xs) l ∙ last_ranks xs
 
   newest_push : (w : W) (b r : ℕ) → Reached Open after Legal node w b → Permitted w r → newest (push w r) ≡ r
-  newest_push w b r x p =
-      let rs = ranks x.landings in
-      sym (ap newest (net.pushes r rs x.legal ∙ ap (λ v. push v r) x.at))
-      ∙ net.newest_is (r ∷ rs) (net.grows r rs x.legal (rw x.at p))
+  newest_push w b r x p = grind arith
 
   pub reached_push : (w : W) (b r t : ℕ) → Reached Open after Legal node w b → Permitted w r
       → Open r t → after (newest w) b r ≤ t → Reached Open after Legal node (push w r) t

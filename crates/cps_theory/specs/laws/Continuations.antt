@@ -23,20 +23,13 @@ cost_onto cost (y ∷ ys) xs = omega (arith, cost_onto cost ys (y ∷ xs))
 
 pub no_later_low : (Low : ℕ → Type 0) → ((t u : ℕ) → t ≤ u → Low u → Low t) → (xs ys : List Landing)
     → NoLater xs ys → AllLow Low ys → AllLow Low xs
-no_later_low Low lower [] [] n a = tt
-no_later_low Low lower [] (y ∷ ys) n a = tt
-no_later_low Low lower (x ∷ xs) [] n a = absurd n
-no_later_low Low lower (x ∷ xs) (y ∷ ys) n a = (lower x.1 y.1 n.1 a.0, no_later_low Low lower xs ys n.2 a.1)
+no_later_low Low lower [] ys n a = grind arith
+no_later_low Low lower (x ∷ xs) ys n a = grind (arith, no_later_low Low lower xs)
 
 pub no_later_cost : (cost : ℕ → ℕ → ℕ) → NeverCheaper cost → (xs ys : List Landing) → NoLater xs ys
     → cost_of cost xs ≤ cost_of cost ys
-no_later_cost cost dearer [] [] n = le_refl 0
-no_later_cost cost dearer [] (y ∷ ys) n = absurd n
-no_later_cost cost dearer (x ∷ xs) [] n = absurd n
-no_later_cost cost dearer (x ∷ xs) (y ∷ ys) n =
-    let a = no_later_cost _ dearer xs ys n.2 in
-    let b = subst (λ r. cost x.0 x.1 ≤ cost r y.1) n.0 (dearer.mono x.0 x.1 y.1 n.1) in
-    omega arith
+no_later_cost cost dearer (x ∷ xs) (y ∷ ys) n = grind (arith, no_later_cost cost dearer xs)
+no_later_cost cost dearer xs ys n = omega arith
 
 pub no_greater_order_antisym : (xs ys : List ℕ) → NoGreaterOrder xs ys → NoGreaterOrder ys xs → xs ≡ ys
 no_greater_order_antisym [] [] a b = refl
@@ -44,18 +37,13 @@ no_greater_order_antisym [] (y ∷ ys) a b = absurd b
 no_greater_order_antisym (x ∷ xs) [] a b = absurd a
 no_greater_order_antisym (x ∷ xs) (y ∷ ys) (inl a) (inl b) = absurd (omega arith)
 no_greater_order_antisym (x ∷ xs) (y ∷ ys) (inl a) (inr b) = absurd (omega arith)
-no_greater_order_antisym (x ∷ xs) (y ∷ ys) (inr a) (inl b) = absurd (omega arith)
-no_greater_order_antisym (x ∷ xs) (y ∷ ys) (inr a) (inr b) =
-    ap₂ (λ z zs. z ∷ zs) a.0 (no_greater_order_antisym xs ys a.1 b.1)
+no_greater_order_antisym (x ∷ xs) (y ∷ ys) (inr a) b = grind (arith, no_greater_order_antisym xs)
 
 -- the last flight of an earliest landing, and those before it
 pub earliest_head : (first : ℕ → ℕ → Option ℕ) (after : ℕ → ℕ → ℕ → ℕ) (r : ℕ) (rs : List ℕ) (ys : List Landing)
     → earliest first after (r ∷ rs) ≡ Some ys → (xs : List Landing) × (t : ℕ) × (earliest first after rs ≡ Some xs)
     × (first r (after (latest_landing xs).0 (latest_landing xs).1 r) ≡ Some t) × (ys ≡ (r, t) ∷ xs)
-earliest_head first after r rs ys e =
-    let b = bound _ _ ys e in
-    let m = mapped _ _ ys b.2 in
-    (b.0, m.0, b.1, m.1, sym m.2)
+earliest_head first after r rs ys e = grind (arith, bound, mapped)
 
 -- the earliest landings of an order are those of its front, and some behind
 pub earliest_front : (first : ℕ → ℕ → Option ℕ) (after : ℕ → ℕ → ℕ → ℕ) (qs rs : List ℕ) (zs : List Landing)
@@ -69,27 +57,21 @@ earliest_front first after (q ∷ qs) rs zs e =
 
 pub onto_in : (z : ℕ) (qs rs : List ℕ) → In z (onto qs rs) → In z qs ⊎ In z rs
 onto_in z [] rs i = inr i
-onto_in z (q ∷ qs) rs i =
-    elim (onto_in z qs _ i) [ inl j ↦ inl (inr j) | inr j ↦ elim j [ inl e ↦ inl (inl e) | inr k ↦ inr k ] ]
+onto_in z (q ∷ qs) rs i = grind (arith, onto_in z qs)
 
 pub in_onto : (z : ℕ) (qs rs : List ℕ) → In z qs ⊎ In z rs → In z (onto qs rs)
-in_onto z [] rs (inl i) = absurd i
-in_onto z [] rs (inr i) = i
-in_onto z (q ∷ qs) rs (inl (inl e)) = in_onto z qs _ (inr (inl e))
-in_onto z (q ∷ qs) rs (inl (inr i)) = in_onto z qs _ (inl i)
-in_onto z (q ∷ qs) rs (inr i) = in_onto z qs _ (inr (inr i))
+in_onto z [] rs h = grind arith
+in_onto z (q ∷ qs) rs h = grind (arith, in_onto z qs)
 
 pub onto_descends : (t : ℕ → ℕ) (qs rs : List ℕ) → Ascends t qs → Descends t rs
     → ((q r : ℕ) → In q qs → In r rs → t r < t q) → Descends t (onto qs rs)
 onto_descends t [] rs a d lt = d
-onto_descends t (q ∷ qs) rs a d lt = onto_descends t qs _ a.1 (λ y i. lt q y (inl refl) i, d)
-    (λ x r i j. elim j [ inl e ↦ omega (arith, ap t e) | inr k ↦ lt x r (inr i) k ])
+onto_descends t (q ∷ qs) rs a d lt = grind (arith, onto_descends t qs)
 
 pub onto_ascends : (t : ℕ → ℕ) (rs qs : List ℕ) → Descends t rs → Ascends t qs
     → ((q r : ℕ) → In q qs → In r rs → t r < t q) → Ascends t (onto rs qs)
 onto_ascends t [] qs d a lt = a
-onto_ascends t (r ∷ rs) qs d a lt = onto_ascends t rs _ d.1 (λ y i. lt y r i (inl refl), a)
-    (λ x y i j. elim i [ inl e ↦ omega (arith, ap t e) | inr k ↦ lt x y k (inr j) ])
+onto_ascends t (r ∷ rs) qs d a lt = grind (arith, onto_ascends t rs)
 
 pub onto_twice : (xs ys : List ℕ) → onto (onto xs ys) [] ≡ onto ys xs
 onto_twice [] ys = refl

@@ -16,17 +16,13 @@ pub decide_le : (m n : ℕ) → Decided (m ≤ n)
 decide_le m n = elim (cases_lt n m) [ inl lt ↦ inr (λ le. omega arith) | inr le ↦ inl le ]
 
 decide_true : (b : Bool) → Decided (b ≡ true)
-decide_true true = inl refl
-decide_true false = inr (λ e. false≢true e)
+decide_true b = grind (arith, false≢true)
 
 decide_not : {P : Type 0} → Decided P → Decided (P → ⊥)
-decide_not (inl p) = inr (λ never. never p)
-decide_not (inr never) = inl never
+decide_not x = grind arith
 
 decide_if : {P Q : Type 0} → Decided P → Decided Q → Decided (P → Q)
-decide_if (inr never) q = inl (λ p. absurd (never p))
-decide_if (inl p) (inl q) = inl (λ x. q)
-decide_if (inl p) (inr never) = inr (λ f. never (f p))
+decide_if x q = grind arith
 
 -- of all ranks up to n
 pub decide_ranks : (n : ℕ) (Q : ℕ → Type 0) → ((x : ℕ) → Decided (Q x)) → Decided ((x : ℕ) → IsRank n x → Q x)
@@ -63,5 +59,4 @@ module _ (g : OrderRules) (ranked : (a r : ℕ) → g.before a r ≡ true → Is
 
   pub decide_legal : (rs : List ℕ) → Decided (Legal g rs)
   decide_legal [] = inl tt
-  decide_legal (r ∷ rs) = with_decided (decide_follow rs r)
-      (λ m. with_decided (decide_legal rs) (λ l. inl (m, l)) (λ h. h.1)) (λ h. h.0)
+  decide_legal (r ∷ rs) = grind (arith, with_decided, decide_follow, decide_legal rs)

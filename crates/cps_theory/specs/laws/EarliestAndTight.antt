@@ -21,8 +21,7 @@ heads x y xs ys e = cc
 
 pub agree_at : (t u : ℕ → ℕ) (rs : List ℕ) → at_seconds t rs ≡ at_seconds u rs → (r : ℕ) → In r rs → t r ≡ u r
 agree_at t u [] e r i = absurd i
-agree_at t u (x ∷ rs) e r (inl s) = rw s (ap (λ (y : Landing). y.1) (heads _ _ _ _ e))
-agree_at t u (x ∷ rs) e r (inr i) = agree_at t u rs (let a : at_seconds t rs ≡ at_seconds u rs = cc in a) r i
+agree_at t u (x ∷ rs) e r i = grind (arith, heads, agree_at t u rs)
 
 module _ (p : RankedProblem) (sound : SoundProblem p) (first : ℕ → ℕ → Option ℕ)
     (opens : IsFirstOpen (λ r u. p.is_open r u ≡ true) first) where

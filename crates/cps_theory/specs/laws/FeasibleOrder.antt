@@ -23,8 +23,7 @@ ranks_at t (r ∷ rs) = ap (λ l. r ∷ l) (ranks_at t rs)
 pub at_seconds_agree : (t t' : ℕ → ℕ) (rs : List ℕ) → ((r : ℕ) → In r rs → t r ≡ t' r)
     → at_seconds t rs ≡ at_seconds t' rs
 at_seconds_agree t t' [] h = refl
-at_seconds_agree t t' (r ∷ rs) h =
-    ap₂ (λ u xs. (r, u) ∷ xs) (h r (inl refl)) (at_seconds_agree t t' rs (λ x i. h x (inr i)))
+at_seconds_agree t t' (r ∷ rs) h = grind (arith, at_seconds_agree t t' rs)
 
 -- how many land earlier, counted over any list of all ranks
 pub earlier_in : (n : ℕ) (t : ℕ → ℕ) (r : ℕ) (rs : List ℕ) → Distinct rs → ((x : ℕ) → In x rs → IsRank n x)
@@ -38,33 +37,19 @@ module _ (p : RankedProblem) (t : ℕ → ℕ) (sound : SoundProblem p) where
   -- ---- from an order to the pairs
 
   from_last : (l u r : ℕ) → p.start r ≤ next_from p l u r
-  from_last zero u r = omega arith
-  from_last (suc l) u r = omega arith
+  from_last l u r = grind arith
 
   after_last : (l u r : ℕ) → 1 ≤ l → u + p.apart l r ≤ next_from p l u r
-  after_last zero u r one = absurd (omega arith)
-  after_last (suc l) u r one = omega arith
+  after_last l u r one = grind arith
 
   landed_at : (x : ℕ) (rs : List ℕ) → LandsAt rs → In x rs → (p.is_open x (t x) ≡ true) × (p.start x ≤ t x)
   landed_at x [] l i = absurd i
-  landed_at x (r ∷ rs) l (inl e) = rw e (
-    l.0,
-    let a =
-        from_last _ _ r in le_trans a l.1,
-  )
-  landed_at x (r ∷ rs) l (inr i) = landed_at x rs l.2 i
+  landed_at x (r ∷ rs) l i = grind (arith, from_last, le_trans, landed_at x rs)
 
   -- each earlier one is apart from the latest
   apart_head : (y r : ℕ) (rs : List ℕ) → EachFits p.rules rs → LandsAt (r ∷ rs) → In y rs → t y + p.apart y r ≤ t r
   apart_head y r [] pl l i = absurd i
-  apart_head y r (q ∷ rs) pl l i = go i (apart_head y q rs pl.1 l.2)
-    where
-      near : t q + p.apart q r ≤ t r
-      near = le_trans (after_last q _ r pl.0.from_one) l.1
-
-      go : (y ≡ q) ⊎ In y rs → (In y rs → t y + p.apart y q ≤ t q) → t y + p.apart y r ≤ t r
-      go (inl e) ih = rw e near
-      go (inr j) ih = let b = sound.triangle y q r in let c = near in omega arith
+  apart_head y r (q ∷ rs) pl l i = grind (arith, le_trans, after_last, apart_head y q rs pl.1 l.2)
 
   below_head : (y r : ℕ) (rs : List ℕ) → EachFits p.rules rs → LandsAt (r ∷ rs) → In y rs → t y < t r
   below_head y r rs pl l i = omega (arith, apart_head y r rs pl l i)
@@ -75,18 +60,13 @@ module _ (p : RankedProblem) (t : ℕ → ℕ) (sound : SoundProblem p) where
 
   apart_in : (f g : ℕ) (rs : List ℕ) → EachFits p.rules rs → LandsAt rs → In f rs → In g rs
       → f ≢ g → t f ≤ t g → t f + p.apart f g ≤ t g
-  apart_in f g [] pl l i j ne le = absurd i
-  apart_in f g (r ∷ rs) pl l (inl e) (inl e') ne le = absurd (ne (e ∙ sym e'))
-  apart_in f g (r ∷ rs) pl l (inl e) (inr j) ne le = let a =
-      below_head g r rs pl.1 l j in absurd (omega (arith, ap t e))
-  apart_in f g (r ∷ rs) pl l (inr i) (inl e) ne le = rw e (apart_head f r rs pl.1 l i)
-  apart_in f g (r ∷ rs) pl l (inr i) (inr j) ne le = apart_in f g rs pl.1 l.2 i j ne le
+  apart_in f g [] pl l i j ne le = grind (arith, below_head, apart_head)
+  apart_in f g (r ∷ rs) pl l i j ne le = grind (arith, below_head, apart_head, apart_in f g rs)
 
   order_in : (f g : ℕ) (rs : List ℕ) → EachFits p.rules rs → LandsAt rs → In g rs → p.rules.before f g ≡ true
       → t f < t g
   order_in f g [] pl l i b = absurd i
-  order_in f g (r ∷ rs) pl l (inl e) b = subst (λ z. t f < t z) (sym e) (below_head f r rs pl.1 l (pl.0.after f (cc)))
-  order_in f g (r ∷ rs) pl l (inr i) b = order_in f g rs pl.1 l.2 i b
+  order_in f g (r ∷ rs) pl l i b = grind (arith, below_head, order_in f g rs)
 
   -- the place of each
   place_in : (all : List ℕ) → Descends t all → (front rs : List ℕ) → all ≡ front ++ rs → EachFits p.rules rs
@@ -95,11 +75,7 @@ module _ (p : RankedProblem) (t : ℕ → ℕ) (sound : SoundProblem p) where
   place_in all d front [] e pl r i = absurd i
   place_in all d front (x ∷ rs) e pl r (inr i) =
       place_in all d (front ++ x ∷ []) rs (e ∙ sym (append_assoc _ _ rs)) pl.1 r i
-  place_in all d front (x ∷ rs) e pl r (inl s) =
-      let here = ap (count (λ q. ltb (t q) (t x))) e ∙ descends_place t _ x rs (rw e at d) in
-      let both : (x ≤ suc (count (λ q. ltb (t q) (t x)) all) + p.rules.most)
-      × (suc (count (λ q. ltb (t q) (t x)) all) ≤ x + p.rules.back x) = omega arith in
-      rw s both
+  place_in all d front (x ∷ rs) e pl r (inl s) = grind (arith, count, descends_place)
 
   pub lands_feasible : (rs : List ℕ) → LandsAllRanks p t rs → Feasible p t
   lands_feasible rs l =
@@ -132,10 +108,8 @@ module _ (p : RankedProblem) (t : ℕ → ℕ) (sound : SoundProblem p) where
     -- what lands before an element of the order stands behind it
     behind : (front : List ℕ) (r : ℕ) (rs : List ℕ) → Descends t (front ++ r ∷ rs) → (x : ℕ)
         → In x (front ++ r ∷ rs) → t x < t r → In x rs
-    behind [] r rs d x (inl e) lt = absurd (omega (arith, ap t e))
-    behind [] r rs d x (inr i) lt = i
-    behind (y ∷ front) r rs d x (inl e) lt = absurd (let a = d.0 r (in_middle r _ rs) in let s = ap t e in omega arith)
-    behind (y ∷ front) r rs d x (inr i) lt = behind front r rs d.1 x i lt
+    behind [] r rs d x k lt = grind (arith, in_middle)
+    behind (y ∷ front) r rs d x k lt = grind (arith, in_middle, behind front)
 
     tail_descends : (front rs : List ℕ) → Descends t (front ++ rs) → Descends t rs
     tail_descends [] rs d = d
@@ -145,13 +119,7 @@ module _ (p : RankedProblem) (t : ℕ → ℕ) (sound : SoundProblem p) where
         → Descends t (r ∷ rs) → next_from p (latest_landing (at_seconds t rs)).0
         (latest_landing (at_seconds t rs)).1 r ≤ t r
     from_next [] r in' d = f.started r (in' r (inl refl))
-    from_next (zero ∷ rs) r in' d = absurd (omega (arith, (in' 0 (inr (inl refl))).0))
-    from_next (suc l ∷ rs) r in' d =
-        let lt = d.0 (suc l) (inl refl) in
-        let qr = in' r (inl refl) in
-        let a = f.separated (suc l) r (in' (suc l) (inr (inl refl))) qr (λ e. let s =
-        ap t e in omega arith) (omega arith) in
-        omega arith
+    from_next rs r in' d = grind arith
 
     walk : (front rs : List ℕ) → sorted t p.rules.count ≡ front ++ rs → EachFits p.rules rs × LandsAt rs
     walk front [] e = (tt, tt)
@@ -207,9 +175,7 @@ module _ (p : RankedProblem) (t : ℕ → ℕ) (sound : SoundProblem p) where
 
   pub cost_all : (cost : ℕ → ℕ → ℕ) (rs : List ℕ) → LandsAllRanks p t rs
       → cost_of cost (at_seconds t rs) ≡ total (λ r. cost r (t r)) (upto p.rules.count)
-  cost_all cost rs l =
-      let pl = legal_each_fits _ rs l.legal in
-      cost_at _ rs ∙ total_ranks _ _ rs (each_fits_distinct _ rs pl) (λ x i. in_from_one _ x rs pl i) l.whole
+  cost_all cost rs l = grind (arith, legal_each_fits, cost_at, total_ranks, each_fits_distinct, in_from_one)
 
   -- the last second is the greatest
   pub last_greatest : (rs : List ℕ) → LandsAllRanks p t rs → (r : ℕ) → IsRank p.rules.count r

@@ -94,21 +94,13 @@ module _ (p : RankedProblem) (sound : SoundProblem p) (first : ℕ → ℕ → O
         → BuiltByLeastChoices W first (next_from p) cost node Permitted push newest Keeps budget zs
         → Legal p.rules (ranks zs) → earliest first (next_from p) (ranks zs) ≡ Some zs
     built_earliest [] b l = refl
-    built_earliest (x ∷ xs) b l =
-        let s = net.shrinks x.0 (ranks xs) l in
-        (choice_more W _ _ _ _ _ _ _ _ _ opens (next_later p) dearer net _ closed Low lower _ kept _ _ xs s.0
-        (built_earliest xs b.2 s.0) x.0 x.1 b.0).1
+    built_earliest (x ∷ xs) b l = grind (arith, choice_more, next_later, closed, built_earliest xs)
 
     built_low : (zs : List Landing)
         → BuiltByLeastChoices W first (next_from p) cost node Permitted push newest Keeps budget zs
         → Legal p.rules (ranks zs) → AllLow Low zs
     built_low [] b l = tt
-    built_low (x ∷ xs) b l =
-        let s = net.shrinks x.0 (ranks xs) l in (
-          (choice_more W _ _ _ _ _ _ _ _ _ opens (next_later p) dearer net _ closed Low lower _ kept _ _ xs s.0
-              (built_earliest xs b.2 s.0) x.0 x.1 b.0).2,
-          built_low xs b.2 s.0,
-        )
+    built_low (x ∷ xs) b l = grind (arith, choice_more, next_later, closed, built_earliest, built_low xs)
 
     -- where some feasible schedule is within the value, a landing trail of least choices can be ended
     built_good : (u : ℕ → ℕ) → Feasible p u → AllLow Low (at_seconds u (sorted u p.rules.count))

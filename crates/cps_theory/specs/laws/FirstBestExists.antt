@@ -25,25 +25,11 @@ use Rattle.cps_theory.specs.laws.OrderBySeconds.{in_order_sorted}
 -- of any two orders one is no greater, and no greater than one that is no greater is no greater
 pub no_greater_total : (xs ys : List ℕ) → NoGreaterOrder xs ys ⊎ NoGreaterOrder ys xs
 no_greater_total [] ys = inl tt
-no_greater_total (x ∷ xs) [] = inr tt
-no_greater_total (x ∷ xs) (y ∷ ys) = go (no_greater_total xs ys)
-  where
-    go : NoGreaterOrder xs ys ⊎ NoGreaterOrder ys xs → NoGreaterOrder (x ∷ xs) (y ∷ ys)
-        ⊎ NoGreaterOrder (y ∷ ys) (x ∷ xs)
-    go rest = elim (cases_order x y) [
-      | inl e ↦ elim rest [ inl a ↦ inl (inr (e, a)) | inr b ↦ inr (inr (sym e, b)) ]
-      | inr (inl lt) ↦ inl (inl lt)
-      | inr (inr gt) ↦ inr (inl gt)
-    ]
+no_greater_total (x ∷ xs) ys = grind (arith, cases_order, no_greater_total xs)
 
 pub no_greater_chain : (xs ys zs : List ℕ) → NoGreaterOrder xs ys → NoGreaterOrder ys zs → NoGreaterOrder xs zs
-no_greater_chain [] ys zs a b = tt
-no_greater_chain (x ∷ xs) [] zs a b = absurd a
-no_greater_chain (x ∷ xs) (y ∷ ys) [] a b = absurd b
-no_greater_chain (x ∷ xs) (y ∷ ys) (z ∷ zs) (inl a) (inl b) = inl (omega arith)
-no_greater_chain (x ∷ xs) (y ∷ ys) (z ∷ zs) (inl a) (inr b) = inl (omega arith)
-no_greater_chain (x ∷ xs) (y ∷ ys) (z ∷ zs) (inr a) (inl b) = inl (omega arith)
-no_greater_chain (x ∷ xs) (y ∷ ys) (z ∷ zs) (inr a) (inr b) = inr (a.0 ∙ b.0, no_greater_chain xs ys zs a.1 b.1)
+no_greater_chain [] ys zs a b = grind arith
+no_greater_chain (x ∷ xs) ys zs a b = grind (arith, no_greater_chain xs)
 
 module _ (p : RankedProblem) (sound : SoundProblem p) (first : ℕ → ℕ → Option ℕ)
     (opens : IsFirstOpen (λ r u. p.is_open r u ≡ true) first) (cost : ℕ → ℕ → ℕ) (dearer : NeverCheaper cost)
@@ -76,21 +62,11 @@ module _ (p : RankedProblem) (sound : SoundProblem p) (first : ℕ → ℕ → O
 
   before_total : (rs os : List ℕ) → Before rs os ⊎ Before os rs
   unfolding Before
-  before_total rs os = elim (cases_order (worth rs) (worth os)) [
-    | inl e ↦ elim (no_greater_total _ _) [
-      | inl a ↦ inl (inr (e, a))
-      | inr b ↦ inr (inr (sym e, b))
-    ]
-    | inr (inl lt) ↦ inl (inl lt)
-    | inr (inr gt) ↦ inr (inl gt)
-  ]
+  before_total rs os = grind (arith, cases_order, no_greater_total)
 
   before_chain : (rs os qs : List ℕ) → Before rs os → Before os qs → Before rs qs
   unfolding Before
-  before_chain rs os qs (inl a) (inl b) = inl (omega arith)
-  before_chain rs os qs (inl a) (inr b) = inl (omega arith)
-  before_chain rs os qs (inr a) (inl b) = inl (omega arith)
-  before_chain rs os qs (inr a) (inr b) = inr (a.0 ∙ b.0, no_greater_chain _ _ _ a.1 b.1)
+  before_chain rs os qs x h = grind (arith, no_greater_chain)
 
   -- the order of a feasible map lands at its earliest seconds, which are worth no more
   record Ordered (t : ℕ → ℕ) : Type 0 where
@@ -101,10 +77,7 @@ module _ (p : RankedProblem) (sound : SoundProblem p) (first : ℕ → ℕ → O
   sorted_ranks t = record { long = length-sorted t p.rules.count; ranked = sorted_in t p.rules.count }
 
   no_later_latest : (xs ys : List Landing) → NoLater xs ys → (latest_landing xs).1 ≤ (latest_landing ys).1
-  no_later_latest [] [] n = omega arith
-  no_later_latest [] (y ∷ ys) n = absurd n
-  no_later_latest (x ∷ xs) [] n = absurd n
-  no_later_latest (x ∷ xs) (y ∷ ys) n = n.1
+  no_later_latest xs ys n = grind arith
 
   feasible_ordered : (t : ℕ → ℕ) → Feasible p t → Ordered t
   unfolding worth
@@ -123,9 +96,7 @@ module _ (p : RankedProblem) (sound : SoundProblem p) (first : ℕ → ℕ → O
   -- the value of a tight map is what its order is worth
   tight_worth : (t : ℕ → ℕ) → Tight p t → worth (sorted t p.rules.count) ≡ value (second_and_cost cost p.rules.count t)
   unfolding worth
-  tight_worth t tight =
-      ap worth_of (tight_earliest p sound _ opens t tight)
-      ∙ ap value (pair_all p _ sound t _ (feasible_lands p t sound tight.feasible))
+  tight_worth t tight = grind (arith, tight_earliest, pair_all, feasible_lands)
 
   -- the earliest landings of the first of the cheapest orders
   built : LeastEnd p.rules.count LandsEarliest decide_lands Before before_total before_chain p.rules.count (λ rs. rs)

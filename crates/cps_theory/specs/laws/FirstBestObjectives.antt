@@ -22,14 +22,11 @@ module _ (p : RankedProblem) (sound : SoundProblem p) (first : ℕ → ℕ → O
 
   pub landed_low : (v : ℕ) (xs : List Landing) → Legal p.rules (ranks xs)
       → Landed (λ r u. p.is_open r u ≡ true) (next_from p) xs → (latest_landing xs).1 ≤ v → AllLow (λ t. t ≤ v) xs
-  landed_low v [] l d le = tt
-  landed_low v (x ∷ []) l d le = (le, tt)
-  landed_low v (x ∷ (zero, u) ∷ xs) l d le = absurd (omega arith)
   landed_low v (x ∷ (suc q, u) ∷ xs) l d le = (le, landed_low v ((suc q, u) ∷ xs) l.1 d.2 (omega arith))
+  landed_low v xs l d le = grind arith
 
   pub low_last : (v : ℕ) (xs : List Landing) → AllLow (λ t. nat_le t v ≡ true) xs → (latest_landing xs).1 ≤ v
-  low_last v [] a = zero-le
-  low_last v (x ∷ xs) a = leb-true x.1 v a.0
+  low_last v xs a = grind (arith, zero-le, leb-true)
 
   pub no_cost : (xs : List Landing) → cost_of (λ r t. 0) xs ≡ 0
   no_cost [] = refl

@@ -27,26 +27,18 @@ from_none test x (suc m) e y le lt = go _ refl e (λ f l. from_none test _ m f y
 passes : {S : Type 0} (test : S → Bool) (n : ℕ) (s : S) (ss : List S) → element_from test n (s ∷ ss) ≡ None
     → (test s ≡ false) × (element_from test (n + 1) ss ≡ None)
 unfolding element_from
-passes test n s ss e = go _ refl e
-  where
-    go : (b : Bool) → test s ≡ b → cond b (Some n) (element_from test (n + 1) ss) ≡ None
-        → (test s ≡ false) × (element_from test (n + 1) ss ≡ None)
-    go true q e = absurd (cc)
-    go false q e = (q, e)
+passes test n s ss e = grind arith
 
 -- where none passes, each fails
 pub each_fails : {S : Type 0} (test : S → Bool) (n : ℕ) (ss : List S) → element_from test n ss ≡ None
     → (i : ℕ) (d : S) → i < length ss → test (get_or ss i d) ≡ false
-each_fails test n [] e i d lt = absurd (omega arith)
-each_fails test n (s ∷ ss) e zero d lt = (passes _ n s ss e).0
 each_fails test n (s ∷ ss) e (suc i) d lt = each_fails _ (n + 1) ss (passes _ n s ss e).1 i d (omega arith)
+each_fails test n ss e i d lt = grind (arith, passes)
 
 -- ---- of two searches
 
 pub or_none : {A : Type 0} (a b : Option A) → option_or a b ≡ None → (a ≡ None) × (b ≡ None)
-or_none (Some x) b e = absurd (cc)
-or_none None b e = (refl, e)
+or_none a b e = grind arith
 
 pub with_number_none : (i : ℕ) (o : Option ℕ) → with_number i o ≡ None → o ≡ None
-with_number_none i None e = refl
-with_number_none i (Some r) e = absurd (cc)
+with_number_none i o e = grind arith

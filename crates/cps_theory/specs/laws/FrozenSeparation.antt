@@ -25,8 +25,4 @@ module _ (s : ℕ → ℕ → ℕ) (triangle : (a b c : ℕ) → s a c ≤ s a b
 
   pub apart_parts : AllSeparated s t (frozen ++ waiting) → AllSeparated s t waiting
       × ((g : ℕ) → In g waiting → t x + s x g ≤ t g)
-  apart_parts a = (
-    λ f g i j. a f g (append_in f _ _ (inr i)) (append_in g _ _ (inr j)),
-    λ g i. a x g (append_in x _ _ (inl there)) (append_in g _ _ (inr i)) (λ e. let r =
-        ap t e in omega arith) (omega arith),
-  )
+  apart_parts a = grind (arith, append_in)

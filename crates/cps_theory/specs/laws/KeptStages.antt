@@ -18,8 +18,7 @@ low_ranks g d (r ∷ rs) p lt = (omega arith, low_ranks g d rs p.1 (omega arith)
 
 in_low : (d x : ℕ) (rs : List ℕ) → AllByRecursion (λ r. r < d) rs → In x rs → x < d
 in_low d x [] a i = absurd i
-in_low d x (r ∷ rs) a (inl e) = omega arith
-in_low d x (r ∷ rs) a (inr i) = in_low d x rs a.1 i
+in_low d x (r ∷ rs) a i = grind (arith, in_low d x rs)
 
 -- agreement up to d carries the legal prefixes of fewer than d - k places over
 pub agree_legal : (d : ℕ) (g g' : OrderRules) → AgreeBelow d g g' → (rs : List ℕ) → Legal g rs
@@ -52,20 +51,10 @@ pub agree_landed : (d : ℕ) (Open Open' : ℕ → ℕ → Type 0) (after after'
     → SameLandings d Open Open' after after' cost cost' → 0 < d → (xs : List Landing)
     → AllByRecursion (λ r. r < d) (ranks xs) → Landed Open after xs → Landed Open' after' xs
     × (pair_of cost xs ≡ pair_of cost' xs)
-agree_landed d Open Open' after after' cost cost' same pos [] low l = (tt, refl)
+agree_landed d Open Open' after after' cost cost' same pos [] low l = grind arith
 agree_landed d Open Open' after after' cost cost' same pos (x ∷ xs) low l =
-    let rest = agree_landed d _ _ _ _ _ _ same pos xs low.1 l.2 in
-    let e = same.same_after (latest_landing xs).0 (latest_landing xs).1 x.0 (last_low xs low.1) low.0 in (
-      (same.same_open x.0 x.1 low.0 l.0, rw e at l.1, rest.0),
-      ap (λ c. (x.1, c)) (ap₂ ◌+◌ (ap (λ p. p.1) rest.1) (same.same_cost x.0 x.1 low.0)),
-    )
-  where
-    last_low : (ys : List Landing) → AllByRecursion (λ r. r < d) (ranks ys) → (latest_landing ys).0 < d
-    last_low [] a = pos
-    last_low (y ∷ ys) a = a.0
+    grind (arith, agree_landed d Open Open' after after' cost cost' same pos xs)
 
 -- a stage that does not count was held, and lies below d - k
 pub uncounted : (d k m p : ℕ) → counts d k m p ≡ false → (p + k < d) × (p ≤ m)
-uncounted d k m p e =
-    let o = or_parts _ _ e in
-    (omega (arith, leb-false _ p o.0), ltb-false m p o.1)
+uncounted d k m p e = grind (arith, or_parts, leb-false, ltb-false)

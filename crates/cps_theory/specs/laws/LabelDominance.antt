@@ -1,5 +1,6 @@
 -- A pair no later and no dearer has successors no later and no dearer, so what is closed under successors covers every
 -- landing.
+use Rattle.std.proofs.Common.{arith}
 use Rattle.std.proofs.Common.{◌≡◌, ℕ, ◌+◌, ◌≤◌, List, [], ◌∷◌, Option, Some, option_map, refl, ap, subst, ◌∙◌, le_trans}
 use Rattle.std.proofs.Common.{le_refl, add-le-add}
 use Rattle.cps_theory.specs.Separation.{Landing}
@@ -14,8 +15,7 @@ pub no_worse_trans : (p q r : Pair) → NoWorse p q → NoWorse q r → NoWorse 
 no_worse_trans p q r h k = (le_trans h.0 k.0, le_trans h.1 k.1)
 
 pub last_ranks : (xs : List Landing) → last_rank (ranks xs) ≡ (latest_landing xs).0
-last_ranks [] = refl
-last_ranks (x ∷ xs) = refl
+last_ranks xs = grind arith
 
 module _ (Open : ℕ → ℕ → Type 0) (first : ℕ → ℕ → Option ℕ) (after : ℕ → ℕ → ℕ → ℕ) (cost : ℕ
     → ℕ → ℕ) (opens : IsFirstOpen Open first) (later : NeverEarlier after) (dearer : NeverCheaper cost) where

@@ -20,22 +20,7 @@ module _ {s : RangeInclusive ℕ} {t : Rev (RangeInclusive ℕ)} (first last : �
   -- where each number of a range comes from the back
   counts_down : (u.len ≤ last + 1 - first) × (IsTrue u.whole → u.len ≡ last + 1 - first)
       × ((k : ℕ) → k ≤ last → last < k + u.len → option_map (λ y. y) (u.at (last - k)) ≡ Some k)
-  counts_down =
-      let behind = keeps u u.seen at in
-      let run = behind.0 in
-      let same = behind.2.0 in
-      let long = same.0 in
-      let listed = inclusive_listed_back run run.seen in
-      let start = listed.2 ∙ ap range_inclusive_start behind.1 ∙ begins in
-      let end = listed.3 ∙ ap (λ r. range_inclusive_end r + 1) behind.1 ∙ ap (λ n. n + 1) ends in
-      let down = listed.4 (cc) in (
-        omega (arith, long, down.0.0, start, end),
-        λ whole. (omega (arith, long, down.0.1 (cc), start, end)),
-        λ k low high.
-            let place : listed.1 - 1 - k ≡ last - k = omega (arith, end) in
-            ap (option_map (λ y. y)) (sym (same.2 (last - k))) ∙ ap (λ j. option_map (λ y. y) (run.at j)) (sym place)
-            ∙ (down.1 [] k 0 (omega (arith, end, low)) (omega (arith, end, high, long))).1,
-      )
+  counts_down = grind (arith, inclusive_listed_back)
 
 module _ {F : Type 0} {g : Mut F (Bor ℕ × Unit {0}) Bool} (P : ℕ → Type 0) (f : F)
     (calls : (x : Bor ℕ) (b : Bool) (q : F) → Called g f (x, tt) b q → (q ≡ f) × (IsTrue b ↔ P x.now)) where
@@ -46,12 +31,10 @@ module _ {F : Type 0} {g : Mut F (Bor ℕ × Unit {0}) Bool} (P : ℕ → Type 0
   answers x b at = rw at.shows at (calls at.shown b f at.called).1
 
   fails_at : (x : ℕ) (o : Option ℕ) → option_map (λ y. y) o ≡ Some x → IfSome o (λ y. CalledAt g f y false f) → P x → ⊥
-  fails_at x (Some y) is called p = false≢true ((answers y _ called).1 (rw (ap (λ o. unwrap_or o x) is) p))
-  fails_at x None is called p = absurd (cc)
+  fails_at x o is called p = grind (arith, false≢true, answers)
 
   some_is : (o : Option ℕ) → IsSomeAnd o (λ y. CalledAt g f y false f) → IfSome o (λ y. CalledAt g f y false f)
-  some_is (Some y) called = called
-  some_is None called = absurd called
+  some_is o called = grind arith
 
   -- the greatest number of a range for which it is so, as `find` from the back tells
   pub last_in_range : {s : RangeInclusive ℕ} {t : Rev (RangeInclusive ℕ)} (first last : ℕ)

@@ -132,8 +132,7 @@ module _ (W : Type 0) (Open : ℕ → ℕ → Type 0) (first : ℕ → ℕ → O
     pub least_choices_good : (qs rs : List ℕ) (xs : List Landing) → Legal rs → earliest first after rs ≡ Some xs
         → AllLow Low xs → cost_of cost xs ≤ budget → LeastFrom (node rs) ((latest_landing xs).1, cost_of cost xs) qs
         → Good (onto qs rs)
-    least_choices_good [] rs xs l e a c g =
-        record { legal = l; final = g; landings = xs; earliest_is = e; low = a; cheap = c }
+    least_choices_good [] rs xs l e a c g = search
     least_choices_good (r ∷ qs) rs xs l e a c g =
         let m = choice_more rs xs l e r g.0 g.1 in
         least_choices_good qs _ _ m.0 m.1 (m.2, a) m.3 (rw (net.pushes r rs l) g.3)
@@ -142,8 +141,6 @@ module _ (W : Type 0) (Open : ℕ → ℕ → Type 0) (first : ℕ → ℕ → O
     pub least_choices_least : (qs rs : List ℕ) (xs : List Landing) → Legal rs → earliest first after rs ≡ Some xs
         → LeastFrom (node rs) ((latest_landing xs).1, cost_of cost xs) qs → (os : List ℕ) → Good (onto os rs)
         → NoGreaterOrder qs os
-    least_choices_least [] rs xs l e g os good = tt
-    least_choices_least (r ∷ qs) rs xs l e g [] good = absurd (closed rs r l good.final g.1.permitted)
     least_choices_least (r ∷ qs) rs xs l e g (o ∷ os) good =
         let c = good_choice rs xs e o os good in
         let le = g.2 o c.0 c.1 in
@@ -154,6 +151,7 @@ module _ (W : Type 0) (Open : ℕ → ℕ → Type 0) (first : ℕ → ℕ → O
               let m = choice_more rs xs l e r g.0 g.1 in
               inr (sym same, least_choices_least qs _ _ m.0 m.1 (rw (net.pushes r rs l) g.3) os (rw same at good))
         ]
+    least_choices_least qs rs xs l e g os good = search
 
     -- a loop that tries the ranks in turn finds a choice where a good order goes on
     pub good_goes_on : (rs : List ℕ) (xs : List Landing) → earliest first after rs ≡ Some xs

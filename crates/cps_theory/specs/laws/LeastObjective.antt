@@ -22,19 +22,11 @@ use Rattle.cps_theory.specs.laws.RanksBelow.{at_most_greatest, greatest_least}
 
 -- a later landing never makes the next one earlier
 pub next_later : (p : RankedProblem) → NeverEarlier (next_from p)
-next_later p = record { mono = mono }
-  where
-    mono : (l t u r : ℕ) → t ≤ u → next_from p l t r ≤ next_from p l u r
-    mono zero t u r le = le_refl _
-    mono (suc l) t u r le = omega arith
+next_later p = grind (arith, le_refl)
 
 pub at_second_in : (xs : List Landing) → Distinct (ranks xs) → at_seconds (second_in xs) (ranks xs) ≡ xs
 at_second_in [] d = refl
-at_second_in (x ∷ xs) d =
-    let rest = at_seconds_agree _ (second_in xs) (ranks xs)
-    (λ r i. ap (λ b. cond b x.1 (second_in xs r)) (ne_eqb r x.0 (λ e. d.0 (rw e at i)))) in
-    ap₂ (λ u ys. (x.0, u) ∷ ys) (ap (λ b. cond b x.1 (second_in xs x.0)) (eq-eqb x.0 x.0 refl))
-    (rest ∙ at_second_in xs d.1)
+at_second_in (x ∷ xs) d = grind (arith, at_seconds_agree, ne_eqb, eq-eqb, at_second_in xs)
 
 module _ (p : RankedProblem) (cost : ℕ → ℕ → ℕ) (sound : SoundProblem p) where
   -- the pair of a whole order is that of the map

@@ -1,5 +1,6 @@
 -- Of the lists of ranks of one length for which something holds that can be decided, there is a least one by any total
 -- order, or there is none.
+use Rattle.std.proofs.lemmas.Grind.{common_steps}
 use Rattle.std.proofs.Common.{◌≡◌, ℕ, zero, suc, ◌<◌, ◌≤◌, ◌⊎◌, inl, inr, List, [], ◌∷◌, length, arith, refl, sym}
 use Rattle.std.proofs.Common.{subst, le_refl}
 use Rattle.std.proofs.lemmas.Bool.{cases_lt}
@@ -43,10 +44,7 @@ module _ (n : ℕ) (P : List ℕ → Type 0) (decide : (xs : List ℕ) → Decid
   tail_ranks m y ys r = record { long = omega arith; ranked = λ x i. r.ranked x (inr i) }
 
   more_ranks : (m y : ℕ) (ys : List ℕ) → IsRank n y → AreRanks m n ys → AreRanks (suc m) n (y ∷ ys)
-  more_ranks m y ys q r = record {
-    long = omega arith;
-    ranked = λ x i. elim i [ inl e ↦ subst (IsRank n) (sym e) q | inr k ↦ r.ranked x k ];
-  }
+  more_ranks m y ys q r = grind arith
 
   head_cases : (j y : ℕ) → y ≤ suc j → (y ≤ j) ⊎ (y ≡ suc j)
   head_cases j y le = elim (cases_lt j y) [ inl lt ↦ inr (omega arith) | inr le' ↦ inl le' ]
@@ -54,20 +52,7 @@ module _ (n : ℕ) (P : List ℕ → Type 0) (decide : (xs : List ℕ) → Decid
   one_more : (m j : ℕ) (build : List ℕ → List ℕ) → j < n → LeastUpTo m j build ⊎ NoneUpTo m j build
       → LeastEnd m (λ xs. build (suc j ∷ xs)) ⊎ NoEnd m (λ xs. build (suc j ∷ xs))
       → LeastUpTo m (suc j) build ⊎ NoneUpTo m (suc j) build
-  one_more m j build lt (inr none) (inr none') = inr (λ y ys le r h. elim (head_cases j y le) [
-    | inl low ↦ none y ys low r h
-    | inr e ↦ none' ys (tail_ranks m y ys r) (rw e at h)
-  ])
-  one_more m j build lt (inl a) (inr none') = inl (record {
-    head = a.head;
-    tail = a.tail;
-    ranks = a.ranks;
-    holds = a.holds;
-    least = λ y ys le r h. elim (head_cases j y le) [
-      | inl low ↦ a.least y ys low r h
-      | inr e ↦ absurd (none' ys (tail_ranks m y ys r) (subst (λ z. P (build (z ∷ ys))) e h))
-    ];
-  })
+  one_more m j build lt x (inr none') = grind (arith, head_cases, tail_ranks)
   one_more m j build lt (inr none) (inl b) = inl (record {
     head = suc j;
     tail = b.end;
@@ -129,22 +114,7 @@ module _ (n : ℕ) (P : List ℕ → Type 0) (decide : (xs : List ℕ) → Decid
   itself xs = elim (total xs xs) [ inl b ↦ b | inr b ↦ b ]
 
   empty : (build : List ℕ → List ℕ) → Decided (P (build [])) → LeastEnd 0 build ⊎ NoEnd 0 build
-  empty build (inl h) = inl (record {
-    end = [];
-    ranks = record { long = refl; ranked = λ x i. absurd i };
-    holds =
-        h;
-    least = least;
-  })
-    where
-      least : (ys : List ℕ) → AreRanks 0 n ys → P (build ys) → Before (build []) (build ys)
-      least [] r q = itself _
-      least (y ∷ ys) r q = absurd (omega arith)
-  empty build (inr h) = inr never
-    where
-      never : (ys : List ℕ) → AreRanks 0 n ys → P (build ys) → ⊥
-      never [] r q = h q
-      never (y ∷ ys) r q = omega arith
+  empty build x = grind (arith, common_steps, itself)
 
   pub least_end : (m : ℕ) (build : List ℕ → List ℕ) → LeastEnd m build ⊎ NoEnd m build
   least_end zero build = empty _ (decide (build []))

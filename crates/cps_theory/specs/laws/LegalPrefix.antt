@@ -8,13 +8,11 @@ module _ (g : OrderRules) where
   -- a rank that is in stands near a place
   pub in_below : (x : ℕ) (rs : List ℕ) → EachFits g rs → In x rs → x ≤ length rs + g.most
   in_below x [] p i = absurd i
-  in_below x (r ∷ rs) p (inl e) = omega (arith, p.0.not_early, e)
-  in_below x (r ∷ rs) p (inr i) = omega (arith, in_below x rs p.1 i)
+  in_below x (r ∷ rs) p i = grind (arith, in_below x rs)
 
   pub in_from_one : (x : ℕ) (rs : List ℕ) → EachFits g rs → In x rs → (1 ≤ x) × (x ≤ g.count)
   in_from_one x [] p i = absurd i
-  in_from_one x (r ∷ rs) p (inl e) = omega arith
-  in_from_one x (r ∷ rs) p (inr i) = in_from_one x rs p.1 i
+  in_from_one x (r ∷ rs) p i = grind (arith, in_from_one x rs)
 
   -- step by step is the same as by the whole
   pub legal_each_fits : (rs : List ℕ) → Legal g rs → EachFits g rs
@@ -23,26 +21,11 @@ module _ (g : OrderRules) where
 
   pub legal_none_due : (rs : List ℕ) → Legal g rs → NoneDue g rs
   legal_none_due [] l = omega arith
-  legal_none_due (r ∷ rs) l =
-      λ x one le. elim (cases_eq _ _) [
-        | inl e ↦ l.0.due x one e
-        | inr ne ↦ inr (legal_none_due rs l.1 x one (omega arith))
-      ]
+  legal_none_due (r ∷ rs) l = grind (arith, cases_eq, legal_none_due rs)
 
   pub prefix_legal : ((r : ℕ) → g.back r ≤ g.most) → (rs : List ℕ) → IsLegalPrefix g rs → Legal g rs
   prefix_legal low [] p = tt
-  prefix_legal low (r ∷ rs) p = (
-    record { fits = p.placed.0; due = λ x one e. p.none_due x one (omega arith) },
-    prefix_legal low rs
-        (record { placed = p.placed.1; none_due = λ x one le. before x le (p.none_due x one (omega arith)) }),
-  )
-    where
-      before : (x : ℕ) → x + g.most ≤ length rs → In x (r ∷ rs) → In x rs
-      before x le (inl e) = absurd (omega arith)
-      before x le (inr i) = i
+  prefix_legal low (r ∷ rs) p = grind (arith, prefix_legal low rs)
 
   pub legal_is_prefix : ((r : ℕ) → g.back r ≤ g.most) → (rs : List ℕ) → Legal g rs ↔ IsLegalPrefix g rs
-  legal_is_prefix low rs = (
-    λ l. record { placed = legal_each_fits rs l; none_due = legal_none_due rs l },
-    prefix_legal low rs,
-  )
+  legal_is_prefix low rs = search (legal_each_fits, legal_none_due, prefix_legal)

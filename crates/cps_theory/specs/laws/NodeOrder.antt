@@ -17,36 +17,20 @@ use Rattle.cps_theory.specs.Patterns.{PatternNode}
 use Rattle.cps_theory.specs.CertificateClosure.{InNodeOrder, covers, covers_at, node_cmp}
 
 nat_tie : (m n : ℕ) → nat_cmp m n ≡ Equal → m ≡ n
-nat_tie m n e = elim (cases_lt m n) [
-  | inl lt ↦ let h = nat_cmp_is m n Less lt in absurd (cc)
-  | inr le ↦ elim (cases_eq m n) [
-    | inl same ↦ same
-    | inr ne ↦ let h =
-        nat_cmp_is m n Greater (omega arith) in absurd (cc)
-  ]
-]
+nat_tie m n e = grind (arith, cases_lt, cases_eq)
 
 then_tie : (a b : Ordering) → ordering_then a b ≡ Equal → (a ≡ Equal) × (b ≡ Equal)
-then_tie Less b e = absurd (cc)
-then_tie Equal b e = (refl, e)
-then_tie Greater b e = absurd (cc)
+then_tie a b e = grind arith
 
 bool_tie : (a b : Bool) → bool_cmp a b ≡ Equal → a ≡ b
-bool_tie true true e = refl
-bool_tie false false e = refl
-bool_tie true false e = absurd (cc)
-bool_tie false true e = absurd (cc)
+bool_tie a b e = grind arith
 
 list_tie : (xs ys : List Bool) → slice_cmp bool_cmp xs ys ≡ Equal → xs ≡ ys
-list_tie [] [] e = refl
-list_tie [] (y ∷ ys) e = absurd (cc)
-list_tie (x ∷ xs) [] e = absurd (cc)
-list_tie (x ∷ xs) (y ∷ ys) e = let t = then_tie _ _ e in ap₂ ◌∷◌ (bool_tie x y t.0) (list_tie xs ys t.1)
+list_tie [] ys e = grind (arith, then_tie, bool_tie)
+list_tie (x ∷ xs) ys e = grind (arith, then_tie, bool_tie, list_tie xs)
 
 pub eq_of : (o : Ordering) → is_eq o ≡ true → o ≡ Equal
-eq_of Less e = absurd (cc)
-eq_of Equal e = refl
-eq_of Greater e = absurd (cc)
+eq_of o e = grind arith
 
 abbrev pack : ℕ → List Bool → ℕ → PatternNode
 pack i xs m = (i, xs, m)
@@ -67,9 +51,7 @@ node_total = then_total (on_total (λ (w : PatternNode). w.0) nat_cmp_total)
     (on_total (λ (w : PatternNode). w.2) nat_cmp_total))
 
 less_of : (o : Ordering) → is_lt o ≡ true → o ≡ Less
-less_of Less e = refl
-less_of Equal e = absurd cc
-less_of Greater e = absurd cc
+less_of o e = grind arith
 
 module _ {S : Type 0} (node_of : S → PatternNode) (pairs_of : S → List Pair) where
   -- the order of a state and a node
@@ -79,28 +61,20 @@ module _ {S : Type 0} (node_of : S → PatternNode) (pairs_of : S → List Pair)
   -- a state before one that is at the place, or before it, is before it
   before_equal : (s t : S) (w : PatternNode) → node_cmp (node_of s) (node_of t) ≡ Less → to_node w t ≡ Equal
       → to_node w s ≡ Less
-  before_equal s t w lt eq =
-      let o = node_total in
-      let same = o.congr (node_of t) w (node_of s) eq in
-      o.antisymm (node_of s) w ∙ ap ordering_reverse
-      (sym same ∙ (o.antisymm (node_of t) (node_of s) ∙ ap ordering_reverse lt))
+  before_equal s t w lt eq = grind (arith, node_total)
 
   -- a state after one that is at the place is after it
   after_equal : (s t : S) (w : PatternNode) → node_cmp (node_of s) (node_of t) ≡ Less → to_node w s ≡ Equal
       → to_node w t ≡ Greater
-  after_equal s t w lt eq =
-      let o = node_total in
-      o.antisymm (node_of t) w ∙ ap ordering_reverse (sym (o.congr (node_of s) w (node_of t) eq) ∙ lt)
+  after_equal s t w lt eq = grind (arith, node_total)
 
   adjacent : (ss : List S) → InNodeOrder node_of pairs_of ss → (k : ℕ) (d : S) → k + 1 < length ss
       → is_lt (node_cmp (node_of (get_or ss (k + 1) d)) (node_of (get_or ss k d))) ≡ false
-  adjacent [] h k d lt = absurd (omega arith)
-  adjacent (a ∷ []) h k d lt = absurd (omega arith)
-  adjacent (a ∷ b ∷ rest) h zero d lt = ap is_lt (node_total.antisymm (node_of b) (node_of a)
-      ∙ ap ordering_reverse (less_of _ h.0))
+  adjacent (a ∷ b ∷ rest) h zero d lt = grind (arith, node_total, less_of)
   adjacent (a ∷ b ∷ rest) h (suc k) d lt =
       let e : suc k + 1 ≡ suc (k + 1) = omega arith in
       rw e (adjacent (b ∷ rest) h.1 k d (omega arith))
+  adjacent ss h k d lt = grind arith
 
   pub non_decreasing : (w : PatternNode) (ss : List S) → InNodeOrder node_of pairs_of ss
       → IsNonDecreasingBy (λ s. ordering_index (to_node w s)) ss
@@ -109,10 +83,8 @@ module _ {S : Type 0} (node_of : S → PatternNode) (pairs_of : S → List Pair)
   -- the first of an ascending list comes before each other
   head_below : (a : S) (rest : List S) → InNodeOrder node_of pairs_of (a ∷ rest) → (k : ℕ) (d : S)
       → k < length rest → node_cmp (node_of a) (node_of (get_or rest k d)) ≡ Less
-  head_below a [] h k d lt = absurd (omega arith)
-  head_below a (b ∷ rest) h zero d lt = less_of _ h.0
-  head_below a (b ∷ rest) h (suc k) d lt = node_total.trans (node_of a) (node_of b) (node_of (get_or rest k d))
-      (less_of _ h.0) (head_below b _ h.1 k d (omega arith))
+  head_below a [] h k d lt = grind (arith, less_of, node_total)
+  head_below a (b ∷ rest) h k d lt = grind (arith, less_of, node_total, head_below a rest)
 
   -- ---- what is listed at a place
 
@@ -128,8 +100,7 @@ module _ {S : Type 0} (node_of : S → PatternNode) (pairs_of : S → List Pair)
       rw (not_at w q s (h zero s (omega arith))) (none_covers w q ss (λ k d lt. h (suc k) d (omega arith)))
 
   tail_ascending : (a : S) (rest : List S) → InNodeOrder node_of pairs_of (a ∷ rest) → InNodeOrder node_of pairs_of rest
-  tail_ascending a [] h = tt
-  tail_ascending a (b ∷ rest) h = h.1
+  tail_ascending a rest h = grind arith
 
   pub found_covers : (w : PatternNode) (q : Pair) (ss : List S) → InNodeOrder node_of pairs_of ss
       → (i : ℕ) (d : S) → i < length ss → to_node w (get_or ss i d) ≡ Equal

@@ -1,4 +1,5 @@
 -- There are at most m ^ n different lists of n numbers below m, so a stage has at most (2k + 1) ^ (2k + 1) windows.
+use Rattle.std.proofs.lemmas.Grind.{common_steps}
 use Rattle.std.proofs.Common.{◌≡◌, ℕ, suc, ◌+◌, ◌*◌, ◌^◌, ◌<◌, ◌≤◌, inl, inr, List, [], ◌∷◌, length, map, arith, refl}
 use Rattle.std.proofs.Common.{sym, ap, ap₂, ◌∙◌}
 use Rattle.std.proofs.Math.Nat.{pow-succ', pow-zero}
@@ -28,17 +29,15 @@ same_parts m a b x y lx ly e = elim (cases_order a b) [
 as_number_same : (m : ℕ) (xs ys : List ℕ) → length xs ≡ length ys → AllByRecursion (λ x. x < m) xs
     → AllByRecursion (λ x. x < m) ys → as_number m xs ≡ as_number m ys → xs ≡ ys
 as_number_same m [] [] l a b e = refl
-as_number_same m [] (y ∷ ys) l a b e = absurd (omega arith)
-as_number_same m (x ∷ xs) [] l a b e = absurd (omega arith)
 as_number_same m (x ∷ xs) (y ∷ ys) l a b e =
     let s = same_parts m _ _ x y a.0 b.0 e in
     ap₂ ◌∷◌ s.1 (as_number_same m xs ys (omega arith) a.1 b.1 s.0)
+as_number_same m xs ys l a b e = cc
 
 numbers_differ : (m n : ℕ) (w : List ℕ) (ws : List (List ℕ)) → Sized m n w → AllByRecursion (Sized m n) ws
     → In (suc (as_number m w)) (map (λ x. suc (as_number m x)) ws) → InLists w ws
 numbers_differ m n w [] s a i = i
-numbers_differ m n w (x ∷ ws) s a (inl e) = inl (as_number_same m w x (s.0 ∙ sym a.0.0) s.1 a.0.1 (omega arith))
-numbers_differ m n w (x ∷ ws) s a (inr i) = inr (numbers_differ m n w ws s a.1 i)
+numbers_differ m n w (x ∷ ws) s a i = grind (arith, as_number_same, numbers_differ m n w ws)
 
 distinct_numbers : (m n : ℕ) (ws : List (List ℕ)) → AllByRecursion (Sized m n) ws → DistinctLists ws
     → Distinct (map (λ x. suc (as_number m x)) ws)
@@ -48,13 +47,10 @@ distinct_numbers m n (w ∷ ws) a d = (λ i. d.0 (numbers_differ m n w ws a.0 a.
 in_range : (m n x : ℕ) (ws : List (List ℕ)) → AllByRecursion (Sized m n) ws → In x (map (λ y. suc (as_number m y)) ws)
     → IsRank (m ^ n) x
 in_range m n x [] a i = absurd i
-in_range m n x (w ∷ ws) a (inl e) =
-    (omega (arith, e), omega (arith, e, as_number_below m w a.0.1, ap (λ k. m ^ k) a.0.0))
-in_range m n x (w ∷ ws) a (inr i) = in_range m n x ws a.1 i
+in_range m n x (w ∷ ws) a i = grind (arith, as_number_below, in_range m n x ws)
 
 length-numbers : (m : ℕ) (ws : List (List ℕ)) → length (map (λ x. suc (as_number m x)) ws) ≡ length ws
-length-numbers m [] = refl
-length-numbers m (w ∷ ws) = ap suc (length-numbers m ws)
+length-numbers m ws = grind (arith, common_steps)
 
 pub few_lists : (m n : ℕ) (ws : List (List ℕ)) → AllByRecursion (Sized m n) ws → DistinctLists ws → length ws ≤ m ^ n
 few_lists m n ws a d =

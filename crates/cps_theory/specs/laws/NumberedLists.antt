@@ -1,4 +1,5 @@
 -- Lists made from the numbers from i on: what holds in them, counts in them, and is filtered from them.
+use Rattle.std.proofs.lemmas.Grind.{common_steps}
 use Rattle.std.proofs.Common.{◌≡◌, ℕ, zero, suc, ◌+◌, ◌<◌, ◌≤◌, inl, inr, Bool, true, false, cond, List, [], ◌∷◌, map}
 use Rattle.std.proofs.Common.{filter, count_by, refl, sym, ap, ◌∙◌, arith}
 use Rattle.std.specs.Prelude.{All}
@@ -29,21 +30,11 @@ map_numbers f i (suc n) = ap (λ l. f (suc i) ∷ l) (map_numbers f _ n)
 pub filter_map_is : {X : Type 0} (p : X → Bool) (f : ℕ → X) (xs : List ℕ)
     → filter p (map f xs) ≡ map f (filter (λ i. p (f i)) xs)
 filter_map_is p f [] = refl
-filter_map_is p f (x ∷ xs) = go _ (filter_map_is p f xs)
-  where
-    go : (b : Bool) → filter p (map f xs) ≡ map f (filter (λ i. p (f i)) xs)
-        → cond b (f x ∷ filter p (map f xs)) (filter p (map f xs)) ≡ map f
-        (cond b (x ∷ filter (λ i. p (f i)) xs) (filter (λ i. p (f i)) xs))
-    go true e = ap (λ l. f x ∷ l) e
-    go false e = e
+filter_map_is p f (x ∷ xs) = grind (arith, filter_map_is p f xs)
 
 pub count_by_map : {X : Type 0} (p : X → Bool) (f : ℕ → X) (xs : List ℕ)
     → count_by p (map f xs) ≡ count_by (λ i. p (f i)) xs
-count_by_map p f xs = go xs ∙ sym (count_is _ xs)
-  where
-    go : (xs : List ℕ) → count_by p (map f xs) ≡ count (λ i. p (f i)) xs
-    go [] = refl
-    go (x ∷ xs) = sum_by-cons _ _ (map f xs) ∙ ap (λ n. cond (p (f x)) 1 0 + n) (go xs)
+count_by_map p f xs = grind (arith, common_steps, count_is, count, sum_by-cons)
 
 pub count_by_agree : (p q : ℕ → Bool) (xs : List ℕ) → ((x : ℕ) → In x xs → p x ≡ q x) → count_by p xs ≡ count_by q xs
 count_by_agree p q xs h = count_is p xs ∙ count_agree p q xs h ∙ sym (count_is q xs)
@@ -59,6 +50,5 @@ all_at P f (x ∷ xs) a i (inl e) = rw e (a 0 (f x) (omega arith))
 all_at P f (x ∷ xs) a i (inr m) = all_at P f xs (λ k d lt. a (suc k) d (omega arith)) i m
 
 pub at_all : {X : Type 0} (P : X → Type 0) (f : ℕ → X) (xs : List ℕ) → ((i : ℕ) → In i xs → P (f i)) → All P (map f xs)
-at_all P f [] h k d lt = absurd (omega arith)
-at_all P f (x ∷ xs) h zero d lt = h x (inl refl)
-at_all P f (x ∷ xs) h (suc k) d lt = at_all P f xs (λ i m. h i (inr m)) k d (omega arith)
+at_all P f [] h k d lt = grind arith
+at_all P f (x ∷ xs) h k d lt = grind (arith, at_all P f xs)

@@ -1,13 +1,12 @@
 -- What a chain of optional steps gives, if it gives anything.
+use Rattle.std.proofs.Common.{arith}
 use Rattle.std.proofs.Common.{◌≡◌, Option, Some, None, option_and_then, option_map, refl}
 pub use Rattle.std.proofs.lemmas.Option.{same_Some as some_same}
 
 pub bound : {A B : Type 0} (f : A → Option B) (o : Option A) (b : B) → option_and_then f o ≡ Some b
     → (a : A) × (o ≡ Some a) × (f a ≡ Some b)
-bound f None b e = cc
-bound f (Some a) b e = (a, refl, e)
+bound f o b e = grind arith
 
 pub mapped : {A B : Type 0} (f : A → B) (o : Option A) (b : B) → option_map f o ≡ Some b
     → (a : A) × (o ≡ Some a) × (f a ≡ b)
-mapped f None b e = cc
-mapped f (Some a) b e = (a, refl, cc)
+mapped f o b e = grind arith

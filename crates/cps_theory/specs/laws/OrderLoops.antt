@@ -68,8 +68,7 @@ at_seconds_set into r u (x ∷ rs) one out ones =
 
 pub in_all : (P : ℕ → Type 0) (x : ℕ) (xs : List ℕ) → AllByRecursion P xs → In x xs → P x
 in_all P x [] a i = absurd i
-in_all P x (y ∷ ys) a (inl e) = rw e a.0
-in_all P x (y ∷ ys) a (inr i) = in_all P x ys a.1 i
+in_all P x (y ∷ ys) a i = grind (arith, in_all P x ys)
 
 pub in_reverse_take : (P : ℕ → Type 0) (order : List ℕ) → All P order → (i x : ℕ) → In x (reverse (take i order)) → P x
 in_reverse_take P order all i x h = in_all P x _ (recursion_from_All P _ (All-permutation P _ _

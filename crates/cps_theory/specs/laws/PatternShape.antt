@@ -27,25 +27,18 @@ length-tests_from t y (suc m) = ap suc (length-tests_from t _ m)
 
 passing_last : (t : ℕ → Bool) (y m : ℕ) → passing t y (suc m) ≡ passing t y m + cond (t (y + m)) 1 0
 passing_last t y zero = let e : y + 0 ≡ y = omega arith in omega (arith, ap (λ x. cond {A = ℕ} (t x) 1 0) e)
-passing_last t y (suc m) =
-    let e : suc y + m ≡ y + suc m = omega arith in
-    let a = ap (λ x. cond {A = ℕ} (t x) 1 0) e in
-    let b = passing_last t (suc y) m in
-    omega arith
+passing_last t y (suc m) = grind (arith, passing_last t (suc y) m)
 
 passing_all : (t : ℕ → Bool) (y m : ℕ) → ((x : ℕ) → y ≤ x → x < y + m → t x ≡ true) → passing t y m ≡ m
 passing_all t y zero h = refl
-passing_all t y (suc m) h = let a = ap (λ b. cond {A = ℕ} b 1 0) (h y (omega arith) (omega arith)) in let b =
-    passing_all t (suc y) m (λ x le lt. h x (omega arith) (omega arith)) in omega arith
+passing_all t y (suc m) h = grind (arith, passing_all t (suc y) m)
 
 passing_none : (t : ℕ → Bool) (y m : ℕ) → ((x : ℕ) → y ≤ x → x < y + m → t x ≡ false) → passing t y m ≡ 0
 passing_none t y zero h = refl
-passing_none t y (suc m) h = let a = ap (λ b. cond {A = ℕ} b 1 0) (h y (omega arith) (omega arith)) in let b =
-    passing_none t (suc y) m (λ x le lt. h x (omega arith) (omega arith)) in omega arith
+passing_none t y (suc m) h = grind (arith, passing_none t (suc y) m)
 
 passing_parts : (t : ℕ → Bool) (y a b : ℕ) → passing t y (a + b) ≡ passing t y a + passing t (y + a) b
-passing_parts t y zero b = let e : y + 0 ≡ y = omega arith in let f : 0 + b ≡ b = omega arith in let c =
-    ap (passing t y) f in omega (arith, ap (λ x. passing t x b) e)
+passing_parts t y zero b = grind arith
 passing_parts t y (suc a) b =
     let e : suc a + b ≡ suc (a + b) = omega arith in
     let f : suc y + a ≡ y + suc a = omega arith in
@@ -63,17 +56,7 @@ passing_agree t u y (suc m) h = ap₂ (λ b n. cond b 1 0 + n) (h y (omega arith
 passing_set : (t u : ℕ → Bool) (v y m : ℕ) → y ≤ v → v < y + m → t v ≡ false → u v ≡ true
     → ((x : ℕ) → (x ≡ v → ⊥) → u x ≡ t x) → passing u y m ≡ suc (passing t y m)
 passing_set t u v y zero le lt f s h = absurd (omega arith)
-passing_set t u v y (suc m) le lt f s h = elim (cases_eq v y) [
-  | inl e ↦
-      (let a = ap (λ b. cond {A = ℕ} b 1 0) (ap t (sym e) ∙ f) in
-      let b = ap (λ b. cond {A = ℕ} b 1 0) (ap u (sym e) ∙ s) in
-      let c = passing_agree t u (suc y) m (λ x lx ltx. h x (λ d. absurd (omega arith))) in
-      omega arith)
-  | inr ne ↦
-      (let a = ap (λ b. cond {A = ℕ} b 1 0) (h y (λ d. ne (sym d))) in
-      let c = passing_set t u v (suc y) m (omega arith) (omega arith) f s h in
-      omega arith)
-]
+passing_set t u v y (suc m) le lt f s h = grind (arith, cases_eq, passing_agree, passing_set t u v (suc y) m)
 
 module _ (g : OrderRules) (low : (r : ℕ) → g.back r ≤ g.most) where
   -- exactly k digits are set

@@ -49,14 +49,7 @@ module _ (s : NumberedSituation) (p : RankedProblem) (at : ℕ → ℕ) (sound :
   not_itself a e = false≢true (sym (sound.order.one_way a a e) ∙ e)
 
   before_at : (q r : ℕ) → IsRank p.rules.count q → IsRank p.rules.count r → s.comes_before (at q) (at r) ≡ ltb q r
-  before_at q r iq ir = elim (cases_order q r) [
-    | inl e ↦ elim (cases_Bool (s.comes_before (at q) (at r))) [
-      | inl b ↦ absurd (not_itself _ (rw e at b))
-      | inr b ↦ b ∙ sym (le-ltb q r (omega arith))
-    ]
-    | inr (inl lt) ↦ of.at_order q r iq ir lt ∙ sym (lt-ltb q r lt)
-    | inr (inr lt) ↦ sound.order.one_way (at r) (at q) (of.at_order r q ir iq lt) ∙ sym (le-ltb q r (omega arith))
-  ]
+  before_at q r iq ir = grind (arith, cases_order, cases_Bool, not_itself, le-ltb, lt-ltb)
 
   at_differ : (q r : ℕ) → IsRank p.rules.count q → IsRank p.rules.count r → q ≢ r → at q ≢ at r
   at_differ q r iq ir ne e = elim (cases_order q r) [

@@ -23,51 +23,26 @@ pub at_no : (b : Bool) → b ≡ false → cond {A = ℕ} b 1 0 ≡ 0
 at_no b e = cc
 
 covered : (b c d : Bool) → (b ≡ true → (c ≡ true) ⊎ (d ≡ true)) → cond b 1 0 ≤ cond c 1 0 + cond d 1 0
-covered false c d h = zero-le
-covered true true d h = omega arith
-covered true false true h = omega arith
-covered true false false h = elim (h refl) [ inl e ↦ absurd (false≢true e) | inr e ↦ absurd (false≢true e) ]
+covered b c d h = grind (arith, zero-le, false≢true)
 
 -- what two tests cover between them is no more than both count
 pub count_cover : (t u v : ℕ → Bool) (rs : List ℕ) → ((r : ℕ) → In r rs → t r ≡ true → (u r ≡ true) ⊎ (v r ≡ true))
     → count t rs ≤ count u rs + count v rs
 count_cover t u v [] h = zero-le
-count_cover t u v (r ∷ rs) h =
-    let a = covered _ _ _ (h r (inl refl)) in
-    let b = count_cover t u v rs (λ x i. h x (inr i)) in
-    omega arith
+count_cover t u v (r ∷ rs) h = grind (arith, covered, count_cover t u v rs)
 
 pub count_none : (t : ℕ → Bool) (rs : List ℕ) → ((r : ℕ) → In r rs → t r ≡ true → ⊥) → count t rs ≡ 0
 count_none t [] h = refl
-count_none t (r ∷ rs) h =
-    let a : t r ≡ false = elim (cases_Bool _) [ inl e ↦ absurd (h r (inl refl) e) | inr e ↦ e ] in
-    ap₂ (λ b n. cond b 1 0 + n) a (count_none t rs (λ x i. h x (inr i)))
+count_none t (r ∷ rs) h = grind (arith, cases_Bool, count_none t rs)
 
 -- a number stands once in a list of different ones
 pub count_once : (v : ℕ) (rs : List ℕ) → Distinct rs → count (λ r. eqb r v) rs ≤ 1
 count_once v [] d = zero-le
-count_once v (r ∷ rs) d =
-    elim (cases_eq r v) [
-      | inl e ↦
-          let none = count_none _ rs (λ x i q. let s = eqb-true x v q ∙ sym e in d.0 (rw s at i)) in
-          let b = once (eqb r v) in
-          omega arith
-      | inr ne ↦
-          let rest = count_once v rs d.1 in
-          let a : eqb r v ≡ false = elim (cases_Bool _) [ inl q ↦ absurd (ne (eqb-true r v q)) | inr q ↦ q ] in
-          omega (arith, at_no (eqb r v) a)
-    ]
-  where
-    once : (b : Bool) → cond {A = ℕ} b 1 0 ≤ 1
-    once true = omega arith
-    once false = omega arith
+count_once v (r ∷ rs) d = grind (arith, cases_eq, count_none, eqb-true, cases_Bool, at_no, count_once v rs)
 
 -- of different numbers, at most b - x are above x and up to b
 pub count_between : (x b : ℕ) (rs : List ℕ) → Distinct rs → count (λ r. ltb x r && leb r b) rs + x ≤ max x b
-count_between x zero rs d =
-    let none = count_none _ rs (λ r i q. let p = and_parts (ltb x r) (leb r 0) q in let a =
-    ltb-true x r p.0 in let c = leb-true r 0 p.1 in omega arith) in
-    omega arith
+count_between x zero rs d = grind (arith, count_none, and_parts, ltb-true, leb-true)
 count_between x (suc b) rs d =
     let ih = count_between x b rs d in
     elim (cases_lt x (suc b)) [
@@ -90,12 +65,7 @@ count_between x (suc b) rs d =
 
 pub count_filter : (p q : ℕ → Bool) (xs : List ℕ) → count p (filter q xs) ≡ count (λ x. q x && p x) xs
 count_filter p q [] = refl
-count_filter p q (x ∷ xs) = go _ (count_filter p q xs)
-  where
-    go : (b : Bool) → count p (filter q xs) ≡ count (λ y. q y && p y) xs
-        → count p (cond b (x ∷ filter q xs) (filter q xs)) ≡ cond (b && p x) 1 0 + count (λ y. q y && p y) xs
-    go true ih = cc
-    go false ih = omega arith
+count_filter p q (x ∷ xs) = grind (arith, count_filter p q xs)
 
 pub count_map : (p : ℕ → Bool) (h : ℕ → ℕ) (xs : List ℕ) → count p (map h xs) ≡ count (λ x. p (h x)) xs
 count_map p h [] = refl
@@ -113,20 +83,7 @@ count_weaker p q xs h =
 pub count_stricter : (p q : ℕ → Bool) (y : ℕ) (xs : List ℕ) → In y xs → p y ≡ false → q y ≡ true
     → ((x : ℕ) → In x xs → p x ≡ true → q x ≡ true) → count p xs < count q xs
 count_stricter p q y [] i no' yes' h = absurd i
-count_stricter p q y (x ∷ xs) (inl e) no' yes' h =
-    let a : cond {A = ℕ} (p x) 1 0 ≡ 0 = ap (λ b. cond {A = ℕ} b 1 0) (ap p (sym e) ∙ no') in
-    let c = ap (λ b. cond {A = ℕ} b 1 0) (ap q (sym e) ∙ yes') in
-    omega (arith, count_weaker p q xs (λ z j. h z (inr j)))
-count_stricter p q y (x ∷ xs) (inr i) no' yes' h =
-    let ih = count_stricter p q y xs i no' yes' (λ z j. h z (inr j)) in
-    let a = one _ _ (h x (inl refl)) in
-    omega arith
-  where
-    one : (b c : Bool) → (b ≡ true → c ≡ true) → cond {A = ℕ} b 1 0 ≤ cond {A = ℕ} c 1 0
-    one true true h = omega arith
-    one true false h = absurd (false≢true (h refl))
-    one false true h = omega arith
-    one false false h = omega arith
+count_stricter p q y (x ∷ xs) i no' yes' h = grind (arith, count_weaker, false≢true, count_stricter p q y xs)
 
 -- two tests that split a third count as much together
 pub count_split : (p q r : ℕ → Bool) (xs : List ℕ)
@@ -134,29 +91,13 @@ pub count_split : (p q r : ℕ → Bool) (xs : List ℕ)
     ⊎ (((r x ≡ true) × (p x ≡ false) × (q x ≡ true)) ⊎ ((r x ≡ false) × (p x ≡ false) × (q x ≡ false))))
     → count r xs ≡ count p xs + count q xs
 count_split p q r [] h = refl
-count_split p q r (x ∷ xs) h =
-    let ih = count_split p q r xs (λ y i. h y (inr i)) in
-    let a = go _ _ _ (h x (inl refl)) in
-    omega arith
-  where
-    go : (b c d : Bool) → ((d ≡ true) × (b ≡ true) × (c ≡ false))
-        ⊎ (((d ≡ true) × (b ≡ false) × (c ≡ true)) ⊎ ((d ≡ false) × (b ≡ false) × (c ≡ false)))
-        → cond {A = ℕ} d 1 0 ≡ cond {A = ℕ} b 1 0 + cond {A = ℕ} c 1 0
-    go b c d (inl e) = grind (arith, e.0, e.1, e.2)
-    go b c d (inr (inl e)) = grind (arith, e.0, e.1, e.2)
-    go b c d (inr (inr e)) = grind (arith, e.0, e.1, e.2)
+count_split p q r (x ∷ xs) h = grind (arith, count_split p q r xs)
 
 -- what a test counts, it counts in what passes another and in what does not
 pub count_parts : (p q : ℕ → Bool) (xs : List ℕ)
     → count p xs ≡ count p (filter q xs) + count p (filter (λ x. not (q x)) xs)
 count_parts p q [] = refl
-count_parts p q (x ∷ xs) = go _ (count_parts p q xs)
-  where
-    go : (b : Bool) → count p xs ≡ count p (filter q xs) + count p (filter (λ y. not (q y)) xs)
-        → cond (p x) 1 0 + count p xs ≡ count p (cond b (x ∷ filter q xs) (filter q xs)) + count p
-        (cond (not b) (x ∷ filter (λ y. not (q y)) xs) (filter (λ y. not (q y)) xs))
-    go true ih = omega arith
-    go false ih = omega arith
+count_parts p q (x ∷ xs) = grind (arith, not, count_parts p q xs)
 
 pub count_agree : (p q : ℕ → Bool) (xs : List ℕ) → ((x : ℕ) → In x xs → p x ≡ q x) → count p xs ≡ count q xs
 count_agree p q [] h = refl
@@ -164,5 +105,4 @@ count_agree p q (x ∷ xs) h = ap₂ (λ b n. cond b 1 0 + n) (h x (inl refl)) (
 
 pub count_length : (p : ℕ → Bool) (rs : List ℕ) → ((r : ℕ) → In r rs → p r ≡ true) → count p rs ≡ length rs
 count_length p [] h = refl
-count_length p (r ∷ rs) h = let a = at_yes _ (h r (inl refl)) in let b =
-    count_length p rs (λ x i. h x (inr i)) in omega arith
+count_length p (r ∷ rs) h = grind (arith, at_yes, count_length p rs)

@@ -23,10 +23,7 @@ greatest_least t (suc n) m h = omega (arith, greatest_least t n m (λ r q. h r (
 
 pub at_most_greatest : (t : ℕ → ℕ) (n r : ℕ) → IsRank n r → t r ≤ greatest t n
 at_most_greatest t zero r q = absurd (omega arith)
-at_most_greatest t (suc n) r q = elim (cases_eq r (suc n)) [
-  | inl e ↦ omega (arith, ap t e)
-  | inr ne ↦ let a = at_most_greatest t n r (q.0, omega arith) in omega arith
-]
+at_most_greatest t (suc n) r q = grind (arith, cases_eq, at_most_greatest t n)
 
 pub in_upto : (n x : ℕ) → In x (upto n) → IsRank n x
 in_upto zero x i = absurd i

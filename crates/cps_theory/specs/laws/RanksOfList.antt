@@ -1,5 +1,6 @@
 -- A list of different ranks from 1 to n has no more than n, all of them where it has n, and then the sums of the ranks
 -- up to n.
+use Rattle.std.proofs.lemmas.Grind.{common_steps}
 use Rattle.std.proofs.Common.{◌≡◌, ℕ, zero, suc, ◌+◌, ◌≤◌, ◌⊎◌, inl, inr, List, [], ◌∷◌, length, cond, Bool, true}
 use Rattle.std.proofs.Common.{false, eqb, arith, refl, sym, ap, ◌∙◌}
 use Rattle.std.proofs.lemmas.Bool.{cases_eq, eqb-true, eqb-false, lt-ltb, le-leb, and_from}
@@ -30,39 +31,20 @@ all_ranks n rs d in' whole x r = elim (cases_in x rs) [
 
 pub in_drop : (x y : ℕ) (rs : List ℕ) → In y (drop_one x rs) → In y rs
 in_drop x y [] i = i
-in_drop x y (r ∷ rs) i = go _ i (in_drop x y rs)
-  where
-    go : (b : Bool) → In y (cond b rs (r ∷ drop_one x rs)) → (In y (drop_one x rs) → In y rs) → (y ≡ r) ⊎ In y rs
-    go true i ih = inr i
-    go false (inl e) ih = inl e
-    go false (inr i) ih = inr (ih i)
+in_drop x y (r ∷ rs) i = grind (arith, in_drop x y rs)
 
 pub distinct_drop : (x : ℕ) (rs : List ℕ) → Distinct rs → Distinct (drop_one x rs) × (In x (drop_one x rs) → ⊥)
 distinct_drop x [] d = (tt, λ i. i)
-distinct_drop x (r ∷ rs) d = go _ refl (distinct_drop x rs d.1)
-  where
-    go : (b : Bool) → eqb x r ≡ b → Distinct (drop_one x rs) × (In x (drop_one x rs) → ⊥)
-        → Distinct (cond b rs (r ∷ drop_one x rs)) × (In x (cond b rs (r ∷ drop_one x rs)) → ⊥)
-    go true e ih = (d.1, rw (eqb-true x r e) d.0)
-    go false e ih = ((λ i. d.0 (in_drop x r rs i), ih.0), λ i. elim i [ inl s ↦ eqb-false x r e s | inr j ↦ ih.1 j ])
+distinct_drop x (r ∷ rs) d = grind (arith, eqb-true, in_drop, eqb-false, distinct_drop x rs)
 
 pub total_drop : (f : ℕ → ℕ) (x : ℕ) (rs : List ℕ) → In x rs → (total f rs ≡ f x + total f (drop_one x rs))
     × (length rs ≡ suc (length (drop_one x rs)))
 total_drop f x [] i = absurd i
-total_drop f x (r ∷ rs) i = go _ refl i (total_drop f x rs)
-  where
-    go : (b : Bool) → eqb x r ≡ b → (x ≡ r) ⊎ In x rs
-        → (In x rs → (total f rs ≡ f x + total f (drop_one x rs)) × (length rs ≡ suc (length (drop_one x rs))))
-        → (f r + total f rs ≡ f x + total f (cond b rs (r ∷ drop_one x rs)))
-        × (suc (length rs) ≡ suc (length (cond b rs (r ∷ drop_one x rs))))
-    go true e i ih = (ap (λ y. f y + total f rs) (sym (eqb-true x r e)), refl)
-    go false e (inl s) ih = absurd (eqb-false x r e s)
-    go false e (inr i) ih = omega arith
+total_drop f x (r ∷ rs) i = grind (arith, eqb-true, eqb-false, total_drop f x rs)
 
 pub total_ranks : (f : ℕ → ℕ) (n : ℕ) (rs : List ℕ) → Distinct rs → ((x : ℕ) → In x rs → IsRank n x)
     → length rs ≡ n → total f rs ≡ total f (upto n)
-total_ranks f zero [] d in' e = refl
-total_ranks f zero (r ∷ rs) d in' e = absurd (omega arith)
+total_ranks f zero rs d in' e = grind (arith, common_steps)
 total_ranks f (suc n) rs d in' e =
     let t = total_drop f _ rs (all_ranks _ rs d in' e _ (omega arith, omega arith)) in
     let dd = distinct_drop _ rs d in
@@ -76,8 +58,7 @@ total_ranks f (suc n) rs d in' e =
     t.0 ∙ ap (λ m. f (suc n) + m) rest
 
 pub count_total : (p : ℕ → Bool) (rs : List ℕ) → count p rs ≡ total (λ r. cond (p r) 1 0) rs
-count_total p [] = refl
-count_total p (r ∷ rs) = cc
+count_total p rs = cc
 
 pub count_ranks : (p : ℕ → Bool) (n : ℕ) (rs : List ℕ) → Distinct rs → ((x : ℕ) → In x rs → IsRank n x)
     → length rs ≡ n → count p rs ≡ count p (upto n)

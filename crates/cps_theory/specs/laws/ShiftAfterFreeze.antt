@@ -22,25 +22,15 @@ module _ (comes_before : ℕ → ℕ → Bool) (order : FirstCome comes_before) 
 
   shift_of : (f : ℕ) → In f waiting → (rank f ≤ place f + k) × (place f ≤ rank f + back f)
   unfolding rank place
-  shift_of f i =
-      let s = shift f i in
-      let a = count_is (λ g. comes_before g f) waiting in
-      let b = count_is (λ g. nat_lt (t g) (t f)) waiting in
-      (omega (arith, s.0, a, b), omega (arith, s.1, a, b))
+  shift_of f i = grind (arith, count_is)
 
   rank_rises : (a b : ℕ) → In a waiting → comes_before a b ≡ true → rank a < rank b
   unfolding rank
-  rank_rises a b i e =
-      let s = count_stricter _ _ a _ i (not_before_itself _ order a) e (λ x j q. order.chain x a b q e) in
-      omega arith
+  rank_rises a b i e = grind (arith, count_stricter, not_before_itself)
 
   place_rises : (a b : ℕ) → In a waiting → t a < t b → place a < place b
   unfolding place
-  place_rises a b i lt =
-      let s = count_stricter _ _ a _ i
-      (le-ltb _ _ (omega arith)) (lt-ltb (t a) (t b) lt) (λ x j q. lt-ltb (t x) (t b) (let c =
-      ltb-true (t x) (t a) q in omega arith)) in
-      omega arith
+  place_rises a b i lt = grind (arith, count_stricter, le-ltb, lt-ltb, ltb-true)
 
   ranks_differ : (xs : List ℕ) → Distinct xs → ((x : ℕ) → In x xs → In x waiting) → Distinct (map rank xs)
   ranks_differ [] d in' = tt

@@ -7,11 +7,8 @@ use Rattle.cps_theory.specs.UndominatedPairs.{InPairOrder, Staircase, sweep}
 
 -- so none is worse than another
 pub staircase_apart : (ps : List Pair) → Staircase ps → (p q : Pair) → InPairs p ps → InPairs q ps → NoWorse p q → p ≡ q
-staircase_apart [] s p q i j le = absurd i
-staircase_apart (x ∷ ps) s p q (inl e) (inl e') le = e ∙ sym e'
-staircase_apart (x ∷ ps) s p q (inl e) (inr j) le = let b = ap (λ (z : Pair). z.1) e in absurd (omega arith)
-staircase_apart (x ∷ ps) s p q (inr i) (inl e) le = let b = ap (λ (z : Pair). z.0) e in absurd (omega arith)
-staircase_apart (x ∷ ps) s p q (inr i) (inr j) le = staircase_apart ps s.1 p q i j le
+staircase_apart [] s p q i j le = grind arith
+staircase_apart (x ∷ ps) s p q i j le = grind (arith, staircase_apart ps)
 
 -- stairs with the same pairs are the same list
 pub staircase_same : (ps qs : List Pair) → Staircase ps → Staircase qs → ((p : Pair) → InPairs p ps → InPairs p qs)

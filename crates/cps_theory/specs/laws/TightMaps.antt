@@ -20,14 +20,10 @@ use Rattle.cps_theory.specs.laws.OptionSteps.{some_same}
 same_insert : (t u : ℕ → ℕ) (x : ℕ) (ys : List ℕ) → ((y : ℕ) → In y ys → ltb (t y) (t x) ≡ ltb (u y) (u x))
     → insert_at t x ys ≡ insert_at u x ys
 same_insert t u x [] h = refl
-same_insert t u x (y ∷ ys) h =
-    ap₂ (λ b l. cond b (x ∷ y ∷ ys) (y ∷ l)) (h y (inl refl)) (same_insert t u x ys (λ z i. h z (inr i)))
+same_insert t u x (y ∷ ys) h = grind (arith, same_insert t u x ys)
 
 same_test : (a b c d : ℕ) → (a < b → c < d) → (c < d → a < b) → ltb a b ≡ ltb c d
-same_test a b c d h k = elim (cases_lt a b) [
-  | inl lt ↦ lt-ltb a b lt ∙ sym (lt-ltb c d (h lt))
-  | inr le ↦ le-ltb a b le ∙ sym (le-ltb c d (elim (cases_lt c d) [ inl lt ↦ absurd (omega arith) | inr le' ↦ le' ]))
-]
+same_test a b c d h k = grind (arith, cases_lt, lt-ltb, le-ltb)
 
 same_sorted : (n : ℕ) (t u : ℕ → ℕ) → SameOrder n t u → sorted t n ≡ sorted u n
 same_sorted zero t u same = refl
@@ -39,16 +35,12 @@ same_sorted (suc n) t u same =
 pub no_later_at : (t u : ℕ → ℕ) (rs : List ℕ) → NoLater (at_seconds t rs) (at_seconds u rs)
     → (r : ℕ) → In r rs → t r ≤ u r
 no_later_at t u [] n r i = absurd i
-no_later_at t u (x ∷ rs) n r (inl e) = rw e n.1
-no_later_at t u (x ∷ rs) n r (inr i) = no_later_at t u rs n.2 r i
+no_later_at t u (x ∷ rs) n r i = grind (arith, no_later_at t u rs)
 
 pub descends_same : (t u : ℕ → ℕ) (rs : List ℕ) → Descends t rs → Descends u rs → (f g : ℕ)
     → In f rs → In g rs → t f < t g → u f < u g
-descends_same t u [] d e f g i j lt = absurd i
-descends_same t u (x ∷ rs) d e f g (inl s) (inl s') lt = absurd (let a = ap t s in let b = ap t s' in omega arith)
-descends_same t u (x ∷ rs) d e f g (inl s) (inr j) lt = absurd (omega (arith, ap t s))
-descends_same t u (x ∷ rs) d e f g (inr i) (inl s) lt = omega (arith, ap u s)
-descends_same t u (x ∷ rs) d e f g (inr i) (inr j) lt = descends_same t u rs d.1 e.1 f g i j lt
+descends_same t u [] d e f g i j lt = grind arith
+descends_same t u (x ∷ rs) d e f g i j lt = grind (arith, descends_same t u rs)
 
 module _ (p : RankedProblem) (sound : SoundProblem p) (first : ℕ → ℕ → Option ℕ)
     (opens : IsFirstOpen (λ r u. p.is_open r u ≡ true) first) where
@@ -106,10 +98,7 @@ module _ (p : RankedProblem) (sound : SoundProblem p) (first : ℕ → ℕ → O
   total_mono : (cost : ℕ → ℕ → ℕ) → NeverCheaper cost → (n : ℕ) (u t : ℕ → ℕ) → ((r : ℕ) → IsRank n r → u r ≤ t r)
       → total (λ r. cost r (u r)) (upto n) ≤ total (λ r. cost r (t r)) (upto n)
   total_mono cost dearer zero u t h = le_refl 0
-  total_mono cost dearer (suc n) u t h =
-      let a = total_mono _ dearer n u t (λ r q. h r (q.0, omega arith)) in
-      let b = dearer.mono (suc n) (u (suc n)) (t (suc n)) (omega arith) in
-      omega arith
+  total_mono cost dearer (suc n) u t h = grind (arith, total_mono cost dearer n)
 
   -- of a feasible schedule of least value, the earliest landings in its order are a best and tight schedule
   pub best_and_tight : (cost : ℕ → ℕ → ℕ) → NeverCheaper cost → (value : Pair → ℕ)
@@ -132,5 +121,4 @@ module _ (p : RankedProblem) (sound : SoundProblem p) (first : ℕ → ℕ → O
 -- an order has at most one tight map
 pub tight_unique : (p : RankedProblem) (t u : ℕ → ℕ) → Tight p t → Tight p u → SameOrder p.rules.count t u
     → (r : ℕ) → IsRank p.rules.count r → t r ≡ u r
-tight_unique p t u a b s r q =
-    le_antisymm (a.least u b.feasible s r q) (b.least t a.feasible (λ f g qf qg. let x = s f g qf qg in (x.1, x.0)) r q)
+tight_unique p t u a b s r q = grind (arith, le_antisymm)

@@ -1,4 +1,5 @@
 -- Dropping pairs that another is no worse than leaves one no later and no dearer for each.
+use Rattle.std.proofs.Common.{arith}
 use Rattle.std.proofs.Common.{◌≡◌, ◌⊎◌, inl, inr, List, [], ◌∷◌, Bool, true, false, cond, leb, refl, le_refl}
 use Rattle.std.proofs.lemmas.Bool.{and_parts, leb-true, false≢true}
 use Rattle.cps_theory.specs.Labels.{InPairs, NoWorse, Pair, no_worse}
@@ -9,15 +10,7 @@ no_worse_true p q e = let a = and_parts (leb p.0 q.0) (leb p.1 q.1) e in (leb-tr
 
 without_covers : (p q : Pair) (qs : List Pair) → InPairs q qs → NoWorse p q ⊎ InPairs q (without p qs)
 without_covers p q [] i = absurd i
-without_covers p q (x ∷ qs) i = go _ refl i (without_covers p q qs)
-  where
-    go : (b : Bool) → no_worse p x ≡ b → (q ≡ x) ⊎ InPairs q qs
-        → (InPairs q qs → NoWorse p q ⊎ InPairs q (without p qs)) → NoWorse p q
-        ⊎ InPairs q (cond b (without p qs) (x ∷ without p qs))
-    go true e (inl s) ih = inl (rw s (no_worse_true p x e))
-    go true e (inr i) ih = ih i
-    go false e (inl s) ih = inr (inl s)
-    go false e (inr i) ih = elim (ih i) [ inl l ↦ inl l | inr j ↦ inr (inr j) ]
+without_covers p q (x ∷ qs) i = grind (arith, no_worse_true, without_covers p q qs)
 
 some_in : (p : Pair) (qs : List Pair) → some_no_worse p qs ≡ true → (q : Pair) × InPairs q qs × NoWorse q p
 some_in p [] e = absurd (false≢true e)

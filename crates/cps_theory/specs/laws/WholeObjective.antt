@@ -1,4 +1,5 @@
 -- The objective of a whole situation is that of its problem, with the part of the frozen flights.
+use Rattle.std.proofs.lemmas.Grind.{common_steps}
 use Rattle.std.proofs.Common.{◌≡◌, ℕ, ◌+◌, ◌≤◌, inl, inr, List, [], ◌∷◌, ◌++◌, sum_by, arith, refl, ap, ap₂, ◌∙◌}
 use Rattle.std.proofs.Common.{le_antisymm, zero-le}
 use Rattle.std.proofs.lemmas.List.Sums.{sum_by-cons}
@@ -16,18 +17,14 @@ latest_bound t (f ∷ fs) m h = let a = h f (inl refl) in let b = latest_bound t
 
 pub latest_at : (t : ℕ → ℕ) (fs : List ℕ) (f : ℕ) → In f fs → t f ≤ latest_in t fs
 latest_at t [] f i = absurd i
-latest_at t (x ∷ fs) f (inl e) = omega (arith, ap t e)
-latest_at t (x ∷ fs) f (inr i) = omega (arith, latest_at t fs f i)
+latest_at t (x ∷ fs) f i = grind (arith, latest_at t fs)
 
 pub sum_append : (g : ℕ → ℕ) (xs ys : List ℕ) → sum_by g (xs ++ ys) ≡ sum_by g xs + sum_by g ys
-sum_append g [] ys = omega arith
-sum_append g (x ∷ xs) ys = let a = sum_by-cons g x (xs ++ ys) in let b = sum_by-cons g x xs in let c =
-    sum_append g xs ys in omega arith
+sum_append g xs ys = grind (arith, common_steps, sum_by-cons)
 
 pub sum_agree : (g h : ℕ → ℕ) (xs : List ℕ) → ((x : ℕ) → In x xs → g x ≡ h x) → sum_by g xs ≡ sum_by h xs
 sum_agree g h [] e = refl
-sum_agree g h (x ∷ xs) e = let a = sum_by-cons g x xs in let b = sum_by-cons h x xs in let c =
-    sum_agree g h xs (λ y i. e y (inr i)) in let d = e x (inl refl) in omega arith
+sum_agree g h (x ∷ xs) e = grind (arith, sum_by-cons, sum_agree g h xs)
 
 pub same_objectives : (s : NumberedSituation) (p : RankedProblem) (at : ℕ → ℕ) → SoundSituation s
     → ProblemOf s p at → (t : ℕ → ℕ) → FeasibleIn s t → SameObjectives s p at t

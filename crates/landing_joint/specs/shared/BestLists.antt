@@ -1,4 +1,5 @@
 -- A list of seconds by rank costs what its map does, and is best or tight where its map is.
+use Rattle.std.proofs.lemmas.Grind.{common_steps}
 use Rattle.std.proofs.Common.{◌≡◌, ℕ, zero, suc, ◌+◌, ◌<◌, ◌≤◌, List, [], ◌∷◌, length, get_or, map, max, arith, refl}
 use Rattle.std.proofs.Common.{sym, ap, ap₂, ◌∙◌}
 use Rattle.std.specs.Prelude.{sum_by}
@@ -36,9 +37,7 @@ total_sum f [] = refl
 total_sum f (r ∷ rs) = let a = sum_by-cons f r rs in let b = total_sum f rs in omega arith
 
 pub sum_map : {X : Type 0} (g : X → ℕ) (F : ℕ → X) (xs : List ℕ) → sum_by g (map F xs) ≡ sum_by (λ i. g (F i)) xs
-sum_map g F [] = refl
-sum_map g F (x ∷ xs) = let a = sum_by-cons g (F x) (map F xs) in let b = sum_by-cons (λ i. g (F i)) x xs in let c =
-    sum_map g F xs in omega arith
+sum_map g F xs = grind (arith, common_steps, sum_by-cons)
 
 module _ (p : lists'.Problem) (v : Schedule) (long : length v ≡ length p.flights) where
   abbrev pairs : List (lists'.Waiting × ℕ)
@@ -47,8 +46,7 @@ module _ (p : lists'.Problem) (v : Schedule) (long : length v ≡ length p.fligh
   delay_one : (r : ℕ) → IsRank (length p.flights) r
       → lists'.list_delay (of_rank (no_waiting, 0) (zip p.flights v) r) ≡ cost_by Delay (of_rank no_waiting p.flights r)
       (of_rank 0 v r)
-  delay_one zero q = omega arith
-  delay_one (suc i) q = ap lists'.list_delay (get_or-zip _ v i (no_waiting, 0) (omega arith) (omega arith))
+  delay_one r q = grind (arith, get_or-zip)
 
   delay_is : sum_by lists'.list_delay (zip p.flights v) ≡ total
       (λ r. cost_by Delay (of_rank no_waiting p.flights r) (of_rank 0 v r)) (upto (length p.flights))
@@ -90,21 +88,16 @@ module _ (p : lists'.Problem) (v : Schedule) (long : length v ≡ length p.fligh
 
 pub zip_of : (xs ys : List ℕ) → length xs ≡ length ys → ((i : ℕ) → i < length xs → get_or xs i 0 ≤ get_or ys i 0)
     → AllZip (λ a b. a ≤ b) xs ys
-zip_of [] [] e h = tt
-zip_of [] (y ∷ ys) e h = absurd (omega arith)
-zip_of (x ∷ xs) [] e h = absurd (omega arith)
 zip_of (x ∷ xs) (y ∷ ys) e h = (h 0 (omega arith), zip_of xs ys (omega arith) (λ i lt. h (suc i) (omega arith)))
+zip_of xs ys e h = grind arith
 
 pub zip_same : (xs ys : List ℕ) → AllZip (λ a b. a ≤ b) xs ys → AllZip (λ a b. a ≤ b) ys xs → xs ≡ ys
-zip_same [] [] a b = refl
-zip_same [] (y ∷ ys) a b = absurd a
-zip_same (x ∷ xs) [] a b = absurd a
-zip_same (x ∷ xs) (y ∷ ys) a b = ap₂ (λ z l. z ∷ l) (omega arith) (zip_same xs ys a.1 b.1)
+zip_same [] ys a b = grind arith
+zip_same (x ∷ xs) ys a b = grind (arith, zip_same xs)
 
 pub zip_rank : (xs ys : Schedule) → AllZip (λ a b. a ≤ b) xs ys → (r : ℕ) → IsRank (length xs) r
     → of_rank 0 xs r ≤ of_rank 0 ys r
-zip_rank xs ys a zero q = omega arith
-zip_rank xs ys a (suc i) q = AllZip-get_or _ xs ys i 0 0 a (omega (arith, q.1))
+zip_rank xs ys a r q = grind (arith, AllZip-get_or)
 
 -- ---- best and tight lists
 
@@ -113,20 +106,11 @@ module _ (p : lists'.Problem) (passed : (r : ℕ) → IsRank (length p.flights) 
   -- a list whose map is best is best
   pub best_list : (v : Schedule) → length v ≡ length p.flights → IsBest (ranked p) (value_of_map p) (of_rank 0 v)
       → lists'.IsBestList p v
-  best_list v long b = record {
-    feasible = feasible_list p passed v long b.feasible;
-    least = λ u f.
-        let a = b.least (of_rank 0 u) (list_feasible p u f) in
-        let here = list_value p v long in
-        let there = list_value p u f.one_each in
-        omega arith;
-  }
+  best_list v long b = grind (arith, feasible_list, list_feasible, list_value)
 
   same_order : (v u : Schedule) → length v ≡ length p.flights → rules.HaveSameOrder v u
       → SameOrder (length p.flights) (of_rank 0 v) (of_rank 0 u)
-  same_order v u long o zero g qf qg = omega arith
-  same_order v u long o (suc i) zero qf qg = omega arith
-  same_order v u long o (suc i) (suc j) qf qg = let w = o i j (omega arith) (omega arith) in (w.0, w.1)
+  same_order v u long o x g qf qg = grind arith
 
   -- a list whose map is tight is tight
   pub tight_list : (v : Schedule) → length v ≡ length p.flights → Tight (ranked p) (of_rank 0 v)

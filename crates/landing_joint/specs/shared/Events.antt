@@ -1,4 +1,5 @@
 -- No event changes the aerodrome, and where one names a flight and is accepted, the flight waits.
+use Rattle.std.proofs.Common.{arith}
 use Rattle.std.proofs.Common.{◌≡◌, ℕ, Option, Some, None, refl, sym, ap, ◌∙◌, true}
 use Rattle.std.specs.Prelude.{find, option_map}
 use Rattle.std.proofs.lemmas.Slice.Eq.{bytes_eq-Decides}
@@ -11,8 +12,7 @@ use Rattle.landing_joint.specs.shared.Members.{differ_of, one_of_name}
 
 pub aerodrome_stays : (s : Situation) (plan : Option Schedule) (e : Event)
     → (situation_after s plan e).aerodrome ≡ s.aerodrome
-aerodrome_stays s plan (Clock now) = refl
-aerodrome_stays s plan e = refl
+aerodrome_stays s plan e = grind arith
 
 pub named_is : (c : Callsign) (a : Active) → named c a ≡ true → a.flight.callsign ≡ c
 named_is c a e = (bytes_eq-Decides _ c).0 e

@@ -40,13 +40,8 @@ use Rattle.landing_joint.specs.shared.SortedBySeconds.{ascends_same}
 
 -- no greater order comes no later
 pub no_greater_no_later : (xs ys : List ℕ) → NoGreaterOrder xs ys → ComesNoLater xs ys
-no_greater_no_later [] [] n = refl
-no_greater_no_later [] (y ∷ ys) n = refl
-no_greater_no_later (x ∷ xs) [] n = absurd n
-no_greater_no_later (x ∷ xs) (y ∷ ys) (inl lt) =
-    ap (λ o. is_le (ordering_then o (slice_cmp nat_cmp xs ys))) (sym (nat_cmp_is x y Less lt))
-no_greater_no_later (x ∷ xs) (y ∷ ys) (inr n) = ap (λ o. is_le (ordering_then o (slice_cmp nat_cmp xs ys)))
-    (sym (nat_cmp_is x y Equal n.0)) ∙ no_greater_no_later xs ys n.1
+no_greater_no_later [] ys n = grind arith
+no_greater_no_later (x ∷ xs) ys n = grind (arith, no_greater_no_later xs)
 
 -- two orders of which none comes later are one
 pub no_later_antisym : (xs ys : List ℕ) → ComesNoLater xs ys → ComesNoLater ys xs → xs ≡ ys
@@ -65,14 +60,12 @@ ranks_are r [] = refl
 ranks_are r (u ∷ us) = ap (λ l. r ∷ l) (ap (λ q. ranks_from q us) (add-one r) ∙ ranks_are _ us)
 
 pub second_is : (v : Schedule) (r : ℕ) → 1 ≤ r → second_at v r ≡ of_rank 0 v r
-second_is v zero q = absurd (omega arith)
-second_is v (suc i) q = ap (λ k. get_or v k 0) {x = suc i - 1} {y = i} (omega arith)
+second_is v r q = grind arith
 
 module _ (p : lists'.Problem) (sound : SoundProblem (ranked p)) where
   in_ranks : (v : Schedule) → length v ≡ length p.flights → (r : ℕ) → In r (ranks_from 1 v)
       → IsRank (length p.flights) r
-  in_ranks v long r i = let b = in_numbers 1 _ r (rw (ranks_are 1 v) at i) in
-      (omega arith)
+  in_ranks v long r i = grind (arith, in_numbers, ranks_are)
 
   ranks_in : (v : Schedule) → length v ≡ length p.flights → (r : ℕ) → IsRank (length p.flights) r
       → In r (ranks_from 1 v)
@@ -121,16 +114,14 @@ numbers_long t b (suc n) = ap suc (numbers_long t _ n)
 
 pub numbers_get : {X : Type 0} (t : ℕ → X) (d : X) (b n i : ℕ) → i < n
     → get_or (map t (numbers_from b n)) i d ≡ t (b + i)
-numbers_get t d b zero i lt = absurd (omega arith)
-numbers_get t d b (suc n) zero lt = ap t (omega arith)
 numbers_get t d b (suc n) (suc i) lt = numbers_get t d _ n i (omega arith) ∙ ap t (omega arith)
+numbers_get t d b n i lt = grind arith
 
 pub list_of_long : (n : ℕ) (t : ℕ → ℕ) → length (list_of n t) ≡ n
 list_of_long n t = numbers_long t 1 n
 
 pub list_of_at : (n : ℕ) (t : ℕ → ℕ) (r : ℕ) → IsRank n r → of_rank 0 (list_of n t) r ≡ t r
-list_of_at n t zero q = omega arith
-list_of_at n t (suc i) q = numbers_get t 0 1 n i (omega arith) ∙ ap t (omega arith)
+list_of_at n t r q = grind (arith, numbers_get)
 
 greatest_agree : (n : ℕ) (t u : ℕ → ℕ) → ((r : ℕ) → IsRank n r → t r ≡ u r) → greatest t n ≡ greatest u n
 greatest_agree zero t u h = refl
@@ -139,8 +130,7 @@ greatest_agree (suc n) t u h = ap₂ max (omega arith) (greatest_agree n t u (λ
 total_agree : (cost : ℕ → ℕ → ℕ) (n : ℕ) (t u : ℕ → ℕ) → ((r : ℕ) → IsRank n r → t r ≡ u r)
     → total (λ r. cost r (t r)) (upto n) ≡ total (λ r. cost r (u r)) (upto n)
 total_agree cost zero t u h = refl
-total_agree cost (suc n) t u h = ap₂ (λ x y. x + y) (ap (cost (suc n)) (omega arith))
-    (total_agree cost n t u (λ r q. h r (omega arith)))
+total_agree cost (suc n) t u h = grind (arith, total_agree cost n)
 
 pub value_agree : (p : lists'.Problem) (t u : ℕ → ℕ) → ((r : ℕ) → IsRank (length p.flights) r → t r ≡ u r)
     → value_of_map p t ≡ value_of_map p u
@@ -157,8 +147,7 @@ pub costs_rise : (p : lists'.Problem) → NeverCheaper (cost_at p)
 costs_rise p = record { mono = λ r t u le. cost_rises p.objective (of_rank no_waiting p.flights r) t u le }
 
 last_rises : (p : lists'.Problem) (fs : List lists'.Waiting) (t u : ℕ) → t ≤ u → makespan_by fs p t ≤ makespan_by fs p u
-last_rises p [] t u le = omega arith
-last_rises p (f ∷ fs) t u le = le
+last_rises p fs t u le = grind arith
 
 pub value_rises_by : (p : lists'.Problem) (o : Objective) (a b : Pair) → NoWorse a b → value_by o p a ≤ value_by o p b
 value_rises_by p Makespan a b le = last_rises p _ a.0 b.0 le.0
@@ -214,14 +203,7 @@ module _ (p : lists'.Problem) (sound : SoundProblem (ranked p)) (passed : (r : �
   pub first_best_list : (v : Schedule) → length v ≡ length p.flights
       → FirstBest (ranked p) (value_of_map p) (of_rank 0 v) → IsFirstBestList p v
   first_best_list v long b =
-      let best = best_list p passed v long b.best in
-      record {
-        best = best;
-        tight = tight_list p passed v long b.tight;
-        first = λ u bu tu. no_greater_no_later (order_of_list v) (order_of_list u)
-            (b.least (of_rank 0 u) (list_best u bu) (list_tight u tu) (order_of_list v) (order_of_list u)
-            (list_in_landing_order p sound v best.feasible) (list_in_landing_order p sound u bu.feasible));
-      }
+      grind (arith, best_list, tight_list, no_greater_no_later, list_best, list_tight, list_in_landing_order)
 
   -- ---- there is one
 

@@ -15,17 +15,7 @@ use Rattle.landing_joint.specs.RankedProblem.{no_waiting, ranked, first_in_span,
 -- ---- one span
 
 span_found : (w : Span) (t u : ℕ) → first_in_span w t ≡ Some u → (is_within u w ≡ true) × (t ≤ u)
-span_found w t u e = go _ refl e
-  where
-    go : (b : Bool) → (nat_le w.0 w.1 && nat_le t w.1) ≡ b → cond b (Some (max t w.0)) None ≡ Some u
-        → (is_within u w ≡ true) × (t ≤ u)
-    go true f e =
-        let s : max t w.0 ≡ u = cc in
-        let parts = and_parts (nat_le w.0 w.1) (nat_le t w.1) f in
-        let a = leb-true w.0 w.1 parts.0 in
-        let b = leb-true t w.1 parts.1 in
-        (and_from _ _ (le-leb w.0 u (omega arith)) (le-leb u w.1 (omega arith)), omega arith)
-    go false f e = cc
+span_found w t u e = grind (arith, and_parts, leb-true, and_from, le-leb)
 
 span_least : (w : Span) (t v : ℕ) → is_within v w ≡ true → t ≤ v → (u : ℕ) × (first_in_span w t ≡ Some u) × (u ≤ v)
 span_least w t v e le =
@@ -38,12 +28,7 @@ span_least w t v e le =
 -- ---- all spans
 
 one_of : (a b : Option ℕ) (u : ℕ) → earlier_of a b ≡ Some u → (a ≡ Some u) ⊎ (b ≡ Some u)
-one_of None b u e = inr e
-one_of (Some x) None u e = inl e
-one_of (Some x) (Some y) u e = elim (cases_lt x y) [
-  | inl lt ↦ (let s : min x y ≡ u = cc in inl (ap Some (omega arith)))
-  | inr le ↦ (let s : min x y ≡ u = cc in inr (ap Some (omega arith)))
-]
+one_of a b u e = grind (arith, cases_lt)
 
 left_low : (a b : Option ℕ) (x : ℕ) → a ≡ Some x → (u : ℕ) × (earlier_of a b ≡ Some u) × (u ≤ x)
 left_low None b x e = absurd (cc)
@@ -58,10 +43,7 @@ right_low (Some y) (Some z) x e = (min y z, refl, (let s : z ≡ x = cc in omega
 pub first_open_found : (ws : List Span) (t u : ℕ) → first_open ws t ≡ Some u → (list_any (is_within u) ws ≡ true)
     × (t ≤ u)
 first_open_found [] t u e = cc
-first_open_found (w ∷ ws) t u e = elim (one_of _ _ u e) [
-  | inl a ↦ (let f = span_found w t u a in (or_left _ _ f.0, f.1))
-  | inr b ↦ (let f = first_open_found ws t u b in (or_right _ _ f.0, f.1))
-]
+first_open_found (w ∷ ws) t u e = grind (arith, one_of, span_found, or_left, or_right, first_open_found ws t u)
 
 pub first_open_least : (ws : List Span) (t v : ℕ) → list_any (is_within v) ws ≡ true → t ≤ v
     → (u : ℕ) × (first_open ws t ≡ Some u) × (u ≤ v)
@@ -94,7 +76,4 @@ first_open_some ws t x le passes least =
 
 -- the first open second of a rank of a problem
 pub is_first_open : (p : Problem) → IsFirstOpen (λ r u. (ranked p).is_open r u ≡ true) (first_at p)
-is_first_open p = record {
-  found = λ r t u e. first_open_found (of_rank no_waiting p.flights r).open_spans t u e;
-  least = λ r t v o le. first_open_least (of_rank no_waiting p.flights r).open_spans t v o le;
-}
+is_first_open p = search (first_open_found, first_open_least)

@@ -42,9 +42,7 @@ module _ (p : lists'.Problem) (sound : SoundProblem (ranked p)) (passed : (r : �
   -- ---- the value
 
   at_value : (q : Pair) × (value_at p q ≡ v)
-  at_value =
-      let a = value_is.attained in
-      (second_and_cost (cost_at p) (length p.flights) (of_rank 0 a.0), sym (list_value p a.0 a.1.one_each) ∙ a.2)
+  at_value = grind (arith, list_value)
 
   no_less : (u : ℕ → ℕ) → Feasible (ranked p) u → v ≤ value_of_map p u
   no_less u f =
@@ -56,13 +54,10 @@ module _ (p : lists'.Problem) (sound : SoundProblem (ranked p)) (passed : (r : �
 
   last_low : (fs : List lists'.Waiting) (xs : List Landing) → length (ranks xs) ≡ length fs
       → makespan_by fs p (latest_landing xs).1 ≤ v → (latest_landing xs).1 ≤ v
-  last_low [] [] e le = zero-le
-  last_low [] (x ∷ xs) e le = absurd (omega arith)
-  last_low (f ∷ fs) xs e le = le
+  last_low fs xs e le = grind (arith, zero-le)
 
   last_back : (fs : List lists'.Waiting) (m t : ℕ) → makespan_by fs p m ≡ v → t ≤ v → makespan_by fs p t ≤ v
-  last_back [] m t e le = omega arith
-  last_back (f ∷ fs) m t e le = le
+  last_back fs m t e le = grind arith
 
   -- a trail is within the value exactly where its seconds are low and its cost is within the budget
   within_by : (o : Objective) (xs : List Landing) → IsLegal p (ranks xs) → LandedIn (ranked p) xs

@@ -15,16 +15,12 @@ member_number a (x ∷ all) (inl e) = (0, omega arith, e)
 member_number a (x ∷ all) (inr m) = let w = member_number a all m in (suc w.0, (omega (arith, w.1)), w.2)
 
 pub number_member : (all : List Active) (i : ℕ) → i < length all → Member (numbered all i) all
-number_member [] i lt = absurd (omega arith)
-number_member (a ∷ all) zero lt = inl refl
-number_member (a ∷ all) (suc i) lt = inr (number_member all i (omega arith))
+number_member [] i lt = grind arith
+number_member (a ∷ all) i lt = grind (arith, number_member all)
 
 pub frozen_member : (f : Landing) (all : List Active) → Member f (filter_map (λ a. option_map (landing a) a.frozen) all)
     → (i : ℕ) × (i < length all) × (u : ℕ) × ((numbered all i).frozen ≡ Some u) × (f ≡ landing (numbered all i) u)
-frozen_member f all m =
-    let r = in_frozen all f m in
-    let n = member_number r.0 all r.2 in
-    (n.0, n.1, r.1, ap (λ (a : Active). a.frozen) (sym n.2) ∙ r.3, r.4 ∙ ap (λ (a : Active). landing a r.1) n.2)
+frozen_member f all m = grind (arith, in_frozen, member_number)
 
 -- ---- callsigns differ
 

@@ -1,4 +1,5 @@
 -- The completing pairs of a prefix are those of its node, told by its pattern.
+use Rattle.std.proofs.Common.{arith}
 use Rattle.std.proofs.Common.{◌≡◌, ℕ, suc, ◌-◌, ◌*◌, ◌≤◌, ◌↔◌, Bool, true, false, ◌||◌, leb, List, [], ◌∷◌, refl, sym}
 use Rattle.std.proofs.Common.{ap, subst, ◌∙◌}
 use Rattle.std.proofs.lemmas.Bool.{false≢true}
@@ -22,13 +23,7 @@ use Rattle.landing_joint.specs.CompletingPairs.{AreOneNode, CanLandBy, EndsOrder
 -- ---- nodes
 
 same_member : (x : ℕ) (rs os : List ℕ) → In x rs ↔ In x os → is_member x rs ≡ is_member x os
-same_member x rs os h = go _ _ refl refl
-  where
-    go : (b c : Bool) → is_member x rs ≡ b → is_member x os ≡ c → b ≡ c
-    go true true e f = refl
-    go false false e f = refl
-    go true false e f = absurd (false≢true (sym f ∙ in_member x os (h.0 (member_in x rs e))))
-    go false true e f = absurd (false≢true (sym e ∙ in_member x rs (h.1 (member_in x os f))))
+same_member x rs os h = grind (arith, false≢true, in_member, member_in)
 
 pub node_is : (m n : ℕ) (ds es : List Bool) (q r : ℕ) → m ≡ n → ds ≡ es → q ≡ r
     → ◌≡◌ {A = PatternNode} (m, ds, q) (n, es, r)
@@ -45,11 +40,7 @@ module _ (p : Problem) (sound : SoundProblem (ranked p)) where
   -- prefixes of one node have one pattern
   pub one_pattern : (rs os : List ℕ) → AreOneNode rs os
       → pattern_node (ranked p).rules rs ≡ pattern_node (ranked p).rules os
-  one_pattern rs os n =
-      let k = (ranked p).rules.most in
-      let d = tests_agree _ _ _ _ (λ x a b. ap (λ m. leb x k || m) (same_member _ rs os (n.placed (x - k))))
-      ∙ ap (λ m. tests_from (pattern_digit k os) (suc m) (2 * k)) n.stage in
-      node_is _ _ _ _ _ _ n.stage d n.latest
+  one_pattern rs os n = grind (arith, tests_agree, same_member, node_is)
 
   placed_one : (rs os : List ℕ) → IsLegal p rs → IsLegal p os
       → pattern_node (ranked p).rules rs ≡ pattern_node (ranked p).rules os → (x : ℕ) → In x rs → In x os
@@ -60,31 +51,15 @@ module _ (p : Problem) (sound : SoundProblem (ranked p)) where
   -- and legal prefixes of one pattern are of one node
   pub pattern_one : (rs os : List ℕ) → IsLegal p rs → IsLegal p os
       → pattern_node (ranked p).rules rs ≡ pattern_node (ranked p).rules os → AreOneNode rs os
-  pattern_one rs os l m e = record {
-    stage = ap (λ (w : PatternNode). w.0) e;
-    placed = λ x. (placed_one rs os l m e x, placed_one os rs m l (sym e) x);
-    latest = ap (λ (w : PatternNode). w.2) e;
-  }
+  pattern_one rs os l m e = grind (arith, placed_one)
 
   -- a node that can land is reached
   pub reached_by : (rs : List ℕ) (b : ℕ) → CanLandBy p rs b → ReachedIn (ranked p) (pattern_node (ranked p).rules rs) b
-  reached_by rs b c = record {
-    landings = c.landings;
-    legal = c.legal;
-    landed = c.landed;
-    at = one_pattern (ranks c.landings) rs c.one_node;
-    by = c.by;
-  }
+  reached_by rs b c = search one_pattern
 
   pub by_reached : (rs : List ℕ) (b : ℕ) → IsLegal p rs → ReachedIn (ranked p) (pattern_node (ranked p).rules rs) b
       → CanLandBy p rs b
-  by_reached rs b l c = record {
-    landings = c.landings;
-    legal = c.legal;
-    landed = c.landed;
-    one_node = pattern_one (ranks c.landings) rs c.legal l c.at;
-    by = c.by;
-  }
+  by_reached rs b l c = search pattern_one
 
   -- ---- what follows
 
@@ -117,27 +92,11 @@ module _ (p : Problem) (sound : SoundProblem (ranked p)) where
     -- the completing pairs of a legal prefix are those of its pattern
     pub completes_node : (rs : List ℕ) (q : Pair) → IsLegal p rs → IsCompletingPair p v rs q
         → CompletesIn (pattern_node (ranked p).rules rs) q
-    completes_node rs q l c =
-        record {
-          opened = c.opened;
-          reached = reached_by rs q.0 c.reached;
-          low = c.low;
-          rest = c.rest;
-          follows = ends_follows rs q.0 c.rest l c.ends;
-          cost_is = c.cost_is;
-        }
+    completes_node rs q l c = search (reached_by, ends_follows)
 
     pub node_completes : (rs : List ℕ) (q : Pair) → IsLegal p rs → CompletesIn (pattern_node (ranked p).rules rs) q
         → IsCompletingPair p v rs q
-    node_completes rs q l c =
-        record {
-          opened = c.opened;
-          reached = by_reached rs q.0 l c.reached;
-          low = c.low;
-          rest = c.rest;
-          ends = follows_ends rs q.0 c.rest l c.follows;
-          cost_is = c.cost_is;
-        }
+    node_completes rs q l c = search (by_reached, follows_ends)
 
     -- so they are those of each legal prefix of the node
     pub completes_one : (rs os : List ℕ) (q : Pair) → IsLegal p rs → IsLegal p os → AreOneNode rs os

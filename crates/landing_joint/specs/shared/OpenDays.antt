@@ -17,8 +17,7 @@ any_low (w ∷ ws) u a e = elim (or_cases _ _ e) [
 
 pub open_in_days : (windows closures : List Span) (u : ℕ) → All (λ w. (w.0 ≤ w.1) × (w.1 ≤ last_second)) windows
     → is_open windows closures u ≡ true → u ≤ last_second
-open_in_days windows closures u a e =
-    any_low _ u a (and_parts (list_any (is_within u) windows) (not (list_any (is_shut u) closures)) e).0
+open_in_days windows closures u a e = grind (arith, any_low, and_parts, not)
 
 -- the same as a test
 pub open_low : (windows closures : List Span) (u : ℕ) → All (λ w. (w.0 ≤ w.1) × (w.1 ≤ last_second)) windows

@@ -63,13 +63,11 @@ module _ (p : lists'.Problem) where
 
   pub after_of : (o : Option (ℕ × Category)) (c : Category) (u : ℕ)
       → MatchOption o ⊤ (λ l. l.0 + separation p.table l.1 c ≤ u) → after_last p.table o c ≤ u
-  after_of None c u m = zero-le
-  after_of (Some l) c u m = m
+  after_of o c u m = grind (arith, zero-le)
 
   pub of_after : (o : Option (ℕ × Category)) (c : Category) (u : ℕ) → after_last p.table o c ≤ u
       → MatchOption o ⊤ (λ l. l.0 + separation p.table l.1 c ≤ u)
-  of_after None c u m = tt
-  of_after (Some l) c u m = m
+  of_after o c u m = grind arith
 
   pub list_feasible : (v : Schedule) → lists'.IsFeasibleList p v → Feasible (ranked p) (of_rank 0 v)
   list_feasible v f = record {

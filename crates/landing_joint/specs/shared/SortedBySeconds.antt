@@ -27,17 +27,7 @@ sorted_by_in t x rs = member_permutation rs _ x (sorted_by_moves t rs)
 ascends_inserted : (t : ℕ → ℕ) (r : ℕ) (rs : List ℕ) → Ascends t rs → ((q : ℕ) → In q rs → t q ≢ t r)
     → Ascends t (insert_by t r rs)
 ascends_inserted t r [] a ne = (λ y i. absurd i, tt)
-ascends_inserted t r (q ∷ rs) a ne = elim (cases_lt (t q) (t r)) [
-  | inl lt ↦ rw (lt-ltb _ _ lt) (
-    λ y i. elim (in_inserted t r y rs i) [ inl s ↦ rw s lt | inr k ↦ a.0 y k ],
-    ascends_inserted t r rs a.1 (λ x i. ne x (inr i)),
-  )
-  | inr le ↦ rw (le-ltb _ _ le) (
-    let n =
-        ne q (inl refl) in λ y i. elim i [ inl s ↦ rw s (omega arith) | inr k ↦ (omega (arith, a.0 y k)) ],
-    a,
-  )
-]
+ascends_inserted t r (q ∷ rs) a ne = grind (arith, cases_lt, lt-ltb, in_inserted, le-ltb, ascends_inserted t r rs)
 
 -- where no two land at one second, each lands before those behind it
 pub sorted_by_ascends : (t : ℕ → ℕ) (rs : List ℕ) → Distinct rs → ((q r : ℕ) → In q rs → In r rs → q ≢ r → t q ≢ t r)
@@ -50,8 +40,7 @@ sorted_by_ascends t (r ∷ rs) d ne =
 -- some of an ascending list ascend
 pub filter_ascends : (t : ℕ → ℕ) (p : ℕ → Bool) (rs : List ℕ) → Ascends t rs → Ascends t (filter p rs)
 filter_ascends t p [] a = tt
-filter_ascends t p (r ∷ rs) a = let h = filter_ascends t p rs a.1 in
-    elim (cases_Bool (p r)) [ inl e ↦ rw e (λ y i. a.0 y (in_filter p y rs i).0, h) | inr e ↦ rw e h ]
+filter_ascends t p (r ∷ rs) a = grind (arith, cases_Bool, in_filter, filter_ascends t p rs)
 
 -- other names with the same seconds ascend too
 pub map_ascends : (t u : ℕ → ℕ) (f : ℕ → ℕ) (rs : List ℕ) → ((x : ℕ) → In x rs → u (f x) ≡ t x)
@@ -66,11 +55,8 @@ map_ascends t u f (r ∷ rs) h a = (
 -- two maps that ascend along one list land its members in the same order
 pub ascends_same : (t u : ℕ → ℕ) (rs : List ℕ) → Ascends t rs → Ascends u rs → (f g : ℕ) → In f rs
     → In g rs → t f < t g → u f < u g
-ascends_same t u [] d e f g i j lt = absurd i
-ascends_same t u (x ∷ rs) d e f g (inl s) (inl s') lt = absurd (let a = ap t s in let b = ap t s' in omega arith)
-ascends_same t u (x ∷ rs) d e f g (inl s) (inr j) lt = omega (arith, ap u s)
-ascends_same t u (x ∷ rs) d e f g (inr i) (inl s) lt = absurd (omega (arith, ap t s))
-ascends_same t u (x ∷ rs) d e f g (inr i) (inr j) lt = ascends_same t u rs d.1 e.1 f g i j lt
+ascends_same t u [] d e f g i j lt = grind arith
+ascends_same t u (x ∷ rs) d e f g i j lt = grind (arith, ascends_same t u rs)
 
 -- a list is told by its image where no two of it have one image
 pub map_one : (f : ℕ → ℕ) (xs ys : List ℕ) → ((x y : ℕ) → In x xs → In y ys → f x ≡ f y → x ≡ y)

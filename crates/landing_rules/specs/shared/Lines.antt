@@ -35,12 +35,8 @@ rest_of (x ∷ xs) = xs
 pub cut_same : (mark : ℕ) (a b x y : Bytes) → IsWithout mark a → IsWithout mark b → a ++ mark ∷ x ≡ b ++ mark ∷ y
     → (a ≡ b) × (x ≡ y)
 cut_same mark [] [] x y p q e = (refl, ap rest_of e)
-cut_same mark [] (c ∷ b) x y p q e = absurd (q.0 (cc))
-cut_same mark (c ∷ a) [] x y p q e = absurd (p.0 (cc))
-cut_same mark (c ∷ a) (d ∷ b) x y p q e =
-    let head : c ≡ d = cc in
-    let more = cut_same _ a b x y p.1 q.1 (ap rest_of e) in
-    (rw (head, more.0) refl, more.1)
+cut_same mark (c ∷ a) (d ∷ b) x y p q e = grind (arith, cut_same mark a)
+cut_same mark a b x y p q e = grind arith
 
 -- lines without line feeds
 abbrev pub AreLines : List Bytes → Type 0
@@ -55,9 +51,7 @@ pub lines_same : (ls ms : List Bytes) → AreLines ls → AreLines ms → lines_
 lines_same [] [] p q e = refl
 lines_same [] (m ∷ ms) p q e = absurd (line_some m _ (sym (append_assoc m _ _) ∙ sym e))
 lines_same (l ∷ ls) [] p q e = absurd (line_some l _ (sym (append_assoc l _ _) ∙ e))
-lines_same (l ∷ ls) (m ∷ ms) p q e =
-    let both = cut_same 10 l m _ _ p.0 q.0 (sym (append_assoc l _ _) ∙ e ∙ append_assoc m _ _) in
-    rw (both.0, lines_same ls ms p.1 q.1 both.1) refl
+lines_same (l ∷ ls) (m ∷ ms) p q e = grind (arith, cut_same, append_assoc, lines_same ls)
 
 -- ---- numbers, names and words without a mark
 
@@ -72,8 +66,7 @@ digit_low b e = grind (arith, nat_tests, common_steps)
 
 digits_without : (mark : ℕ) (ds : List ℕ) → mark < 48 → AreDigits ds → IsWithout mark ds
 digits_without mark [] m h = tt
-digits_without mark (d ∷ ds) m h =
-    ((λ e. omega (arith, digit_low d (and_parts _ _ h).0, e, m)), digits_without _ ds m (and_parts _ _ h).1)
+digits_without mark (d ∷ ds) m h = grind (arith, digit_low, and_parts, digits_without mark ds)
 
 pub decimal_without : (mark n : ℕ) → mark < 48 → n < 2 ^ 64 → IsWithout mark (decimal n)
 decimal_without mark n m h = digits_without _ _ m (digits_decimal own n h)
@@ -91,8 +84,7 @@ all_without mark [] h = tt
 all_without mark (b ∷ bs) h = (differs b _ ((and_parts _ _ h).0), all_without _ bs ((and_parts _ _ h).1))
 
 pub frozen_without : (b : Bool) → IsWithout 10 (frozen_word b)
-frozen_without true = all_without 10 (frozen_word true) refl
-frozen_without false = all_without 10 (frozen_word false) refl
+frozen_without b = grind (arith, all_without)
 
 pub objective_without : (o : Objective) → IsWithout 10 (objective_word o)
 objective_without Makespan = all_without 10 (objective_word Makespan) refl

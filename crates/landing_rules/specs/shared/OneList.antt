@@ -1,4 +1,5 @@
 -- Two lists in one strict order that have the same members are equal.
+use Rattle.std.proofs.Common.{arith}
 use Rattle.std.proofs.Common.{◌≡◌, inl, inr, List, [], ◌∷◌, refl, sym, ap₂, ◌∙◌}
 use Rattle.landing_rules.specs.shared.Counting.{Member}
 
@@ -10,15 +11,12 @@ AscendBy {X} Lt (x ∷ xs) = ((y : X) → Member y xs → Lt x y) × AscendBy Lt
 module _ {X : Type 0} (Lt : X → X → Type 0) (one_way : (x y : X) → Lt x y → Lt y x → ⊥) where
   same_head : (x y : X) (xs ys : List X) → AscendBy Lt (x ∷ xs) → AscendBy Lt (y ∷ ys) → Member x (y ∷ ys)
       → Member y (x ∷ xs) → x ≡ y
-  same_head x y xs ys a b (inl e) j = e
-  same_head x y xs ys a b (inr i) (inl f) = sym f
-  same_head x y xs ys a b (inr i) (inr j) = absurd (one_way x y (a.0 y j) (b.0 x i))
+  same_head x y xs ys a b h j = grind arith
 
   -- an element of the one tail is one of the other
   in_tail : (x y : X) (xs ys : List X) → x ≡ y → AscendBy Lt (x ∷ xs) → (z : X) → Member z xs
       → Member z (y ∷ ys) → Member z ys
-  in_tail x y xs ys e a z i (inl s) = let l = rw (s ∙ sym e) at (a.0 z i) in absurd (one_way x x l l)
-  in_tail x y xs ys e a z i (inr j) = j
+  in_tail x y xs ys e a z i h = grind arith
 
   pub one_list : (xs ys : List X) → AscendBy Lt xs → AscendBy Lt ys → ((z : X) → Member z xs → Member z ys)
       → ((z : X) → Member z ys → Member z xs) → xs ≡ ys

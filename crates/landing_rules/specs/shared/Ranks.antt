@@ -35,11 +35,7 @@ second_equal Equal s e = e
 second_equal Greater s e = cc
 
 pub nat_equal : (a b : ℕ) → nat_cmp a b ≡ Equal → a ≡ b
-nat_equal a b e = elim (cases_order a b) [
-  | inl s ↦ s
-  | inr (inl lt) ↦ absurd (let q : nat_cmp a b ≡ Less = rw (lt-ltb a b lt) in cc)
-  | inr (inr lt) ↦ absurd (let o = nat_cmp_total.antisymm a b in let q : nat_cmp b a ≡ Less = rw (lt-ltb b a lt) in cc)
-]
+nat_equal a b e = grind (arith, cases_order, lt-ltb, nat_cmp_total)
 
 -- two arrivals that are level are one
 pub first_come_level : (a b : ℕ × Callsign) → first_come_cmp a b ≡ Equal → a ≡ b

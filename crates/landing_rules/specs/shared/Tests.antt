@@ -30,38 +30,22 @@ itself b = (λ e. e, λ e. e)
 
 -- a test of a premise's failure or of the conclusion decides the implication
 Decides-implies : (x y : Bool) (P Q : Type 0) → Decides x P → Decides y Q → Decides (not x || y) (P → Q)
-Decides-implies true y P Q d e = (λ h p. e.0 h, λ f. e.1 (f (d.0 refl)))
-Decides-implies false y P Q d e = (λ h p. absurd (true≢false (sym (d.1 p))), λ f. refl)
+Decides-implies x y P Q d e = grind (arith, true≢false)
 
 pub is_pair_separated-Decides : (table : List (List ℕ)) (f g : Landing)
     → Decides (is_pair_separated table f g) (ArePairSeparated table f g)
-is_pair_separated-Decides table f g = by _ _ (bytes_eq-Decides _ _) (Decides-ltb _ _) (leb-Decides _ _)
-  where
-    by : (x y : Bool) {z : Bool} {Q : Type 0} → Decides x (f.flight.callsign ≡ g.flight.callsign)
-        → Decides y (g.second < f.second) → Decides z Q →
-        Decides (x || (y || z)) (f.flight.callsign ≢ g.flight.callsign → f.second ≤ g.second → Q)
-    by true y d e q = (λ h n l. absurd (n (d.0 refl)), λ h. refl)
-    by false true d e q = (λ h n l. absurd (omega arith), λ h. refl)
-    by false false d e q = (
-      λ h n l. q.0 h,
-      λ h. q.1 (h (λ s. true≢false (sym (d.1 s))) (le _ _ (λ l. true≢false (sym (e.1 l))))),
-    )
-      where
-        le : (a b : ℕ) → ¬ (b < a) → a ≤ b
-        le a b n = omega arith
+is_pair_separated-Decides table f g = grind (arith, bytes_eq-Decides, Decides-ltb, leb-Decides, true≢false)
 
 is_pair_in_precedence-Decides : (f g : Landing) → Decides (is_pair_in_precedence f g) (IsPairInPrecedence f g)
 is_pair_in_precedence-Decides f g = Decides-implies _ _ _ _ (itself _) (Decides-ltb _ _)
 
 pub is_shift_kept-Decides : (k : ℕ) (all : List Landing) (f : Landing)
     → Decides (is_shift_kept k all f) (IsShiftKept k all f)
-is_shift_kept-Decides k all f = Decides-and _ _ (leb-Decides (rank_among all f) (place all f + k))
-    (leb-Decides (place all f + f.passed) (rank_among all f + k))
+is_shift_kept-Decides k all f = search (Decides-and, leb-Decides)
 
 keeps_frozen-Decides : (h second : ℕ) (frozen : Option ℕ)
     → Decides (keeps_frozen h second frozen) (MatchOption frozen (h ≤ second) (λ t. second ≡ t))
-keeps_frozen-Decides h second None = leb-Decides h _
-keeps_frozen-Decides h second (Some t) = Decides-eqb second t
+keeps_frozen-Decides h second frozen = grind (arith, leb-Decides, Decides-eqb)
 
 pub keeps_rules-Decides : (s : Situation) (all : List Landing) → Decides (keeps_rules s all) (KeepsRules s all)
 keeps_rules-Decides s all =
