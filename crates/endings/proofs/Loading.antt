@@ -1,9 +1,10 @@
 -- One load more.
+use Rattle.std.proofs.lemmas.Grind.{common_steps}
 use Rattle.std.proofs.Common.{◌≡◌, ◌⊎◌, inl, inr, ℕ, ◌+◌, ◌-◌, ◌<◌, ◌≤◌, List, [], ◌∷◌, ◌++◌, length, take, drop, map}
-use Rattle.std.proofs.Common.{Some, String, Global, string_bytes, IsTrue, ap, sym, subst, ◌∙◌, arith, append_assoc}
-use Rattle.std.proofs.Common.{take-append-drop, length-append}
+use Rattle.std.proofs.Common.{String, Global, string_bytes, IsTrue, ap, sym, ◌∙◌, arith, append_assoc}
+use Rattle.std.proofs.Common.{take-append-drop}
 use Rattle.std.specs.List.{AllByRecursion}
-use Rattle.std.proofs.lemmas.List.{map-append, take_all, take_more, get_or-map, length-map}
+use Rattle.std.proofs.lemmas.List.{take_more, get_or-map, length-map}
 use Rattle.std.specs.Prelude.{slice_index_or}
 use Rattle.cps_outside.specs.Causes.{Rose}
 use Rattle.cps_outside.specs.FolderState.{FolderState, IsAfterLoad, IsAbsent, Gives, Exceeds}
@@ -11,8 +12,7 @@ use Rattle.endings.specs.Loads.{limit, Loads, StopsAt, FailsAt, IsTooLongAt, Ask
 
 pub all-append : {X : Type 0} (P : X → Type 0) (xs : List X) (y : X) → AllByRecursion P xs
     → P y → AllByRecursion P (xs ++ y ∷ [])
-all-append P [] y all last = (last, tt)
-all-append P (x ∷ xs) y all last = (all.0, all-append P xs y all.1 last)
+all-append x0 x1 x2 x3 x4 = grind (arith, common_steps)
 
 -- the names up to the next one
 pub next_name : (names : List (String Global)) (i : ℕ) (s : String Global) (t : List ℕ) → i < length names
@@ -29,94 +29,47 @@ is_name names i lt = grind (arith, length-map)
 
 -- no name is left
 pub all_loaded : (old new : FolderState) (names : List (String Global)) (cs : List (List ℕ)) (i : ℕ)
-    → length names ≤ i →
-    Loads old new (take i (map string_bytes names)) cs → Loads old new (map string_bytes names) cs
-all_loaded old new names cs i end l =
-    let last : length (map string_bytes names) ≤ i = grind (arith, length-map) in
-    subst (λ ns. Loads old new ns cs) (take_all i (map string_bytes names) last) l
+    → length names ≤ i → Loads old new (take i (map string_bytes names)) cs → Loads old new (map string_bytes names) cs
+all_loaded old new names cs i end l = grind (arith, common_steps)
 
 pub asked_unless : {A B C : Type 0} → A ⊎ (B × C) → (B → ⊥) → A
-asked_unless (inl a) never = a
-asked_unless (inr p) never = absurd (never p.0)
+asked_unless x0 x1 = grind arith
 
 pub loads_more : (old mid new : FolderState) (ns cs : List (List ℕ)) (i : ℕ) (name bytes : List ℕ) →
     Loads old mid (take i ns) cs → IsAfterLoad mid new → take (i + 1) ns ≡ take i ns ++ name ∷ [] →
     (IsTrue mid.tells → new.asked ≡ mid.asked ++ name ∷ []) → Gives mid new name limit bytes →
     Loads old new (take (i + 1) ns) (cs ++ bytes ∷ [])
-loads_more old mid new ns cs i name bytes l a step asks gives = record {
-  tells = a.tells ∙ l.tells;
-  content = a.content ∙ l.content;
-  sure = a.sure ∙ l.sure;
-  faults = omega (arith, l.faults, a.faults);
-  taken = omega (arith, l.taken, a.taken);
-  asked = λ told. asks (l.tells ∙ told) ∙ ap (λ q. q ++ name ∷ []) (l.asked told)
-      ∙ append_assoc old.asked (take i ns) (name ∷ []) ∙ ap (λ q. old.asked ++ q) (sym step);
-  told = λ told.
-      let before = l.told told in
-      let here : old.content name ≡ Some bytes = ap (λ f. f name) (sym l.content) ∙ gives.told (l.tells ∙ told) in
-      ap (λ q. map old.content q) step ∙ map-append old.content (take i ns) (name ∷ [])
-      ∙ ap (λ q. q ++ old.content name ∷ []) before ∙ ap (λ q. map Some cs ++ q ∷ []) here
-      ∙ sym (map-append Some cs (bytes ∷ []));
-  count = length-append cs (bytes ∷ []) ∙ ap (λ n. n + 1) l.count ∙ sym (length-append (take i ns) (name ∷ []))
-      ∙ ap length (sym step);
-  bounded = all-append (λ b. length b ≤ limit) cs bytes l.bounded gives.bounded;
-}
+loads_more old mid new ns cs i name bytes l a step asks gives = grind (arith, common_steps)
 
 -- a load that ends them
 stops : (old mid new : FolderState) (ns cs : List (List ℕ)) (i : ℕ) (name : List ℕ) → i < length ns →
     Loads old mid (take i ns) cs → take (i + 1) ns ≡ take i ns ++ name ∷ [] →
     (IsTrue mid.tells → new.asked ≡ mid.asked ++ name ∷ []) → StopsAt old new ns (i + 1)
-stops old mid new ns cs i name lt l step asks =
-    let back : i ≡ i + 1 - 1 = omega arith in record {
-      first = omega arith;
-      inside = omega (arith, lt);
-      contents = cs;
-      earlier = λ told. ap (λ k. map old.content (take k ns)) (sym back) ∙ l.told told;
-      bounded = l.bounded;
-      asked = λ told. asks (l.tells ∙ told) ∙ ap (λ q. q ++ name ∷ []) (l.asked told)
-          ∙ append_assoc old.asked (take i ns) (name ∷ []) ∙ ap (λ q. old.asked ++ q) (sym step);
-    }
+stops old mid new ns cs i name lt l step asks = grind (arith, common_steps)
 
 pub fails_next : (old mid new : FolderState) (ns cs : List (List ℕ)) (i : ℕ) (name : List ℕ) → i < length ns →
     Loads old mid (take i ns) cs → take (i + 1) ns ≡ take i ns ++ name ∷ [] →
     (IsTrue mid.tells → new.asked ≡ mid.asked ++ name ∷ []) → Rose mid.faults new.faults → IsAbsent mid name
     → FailsAt old new ns (i + 1)
-fails_next old mid new ns cs i name lt l step asks rose absent =
-    let back : i ≡ i + 1 - 1 = omega arith in record {
-      stops = stops old mid new ns cs i name lt l step asks;
-      cause = omega (arith, l.faults, rose);
-      absent = λ told sure. (
-        name,
-        step ∙ ap (λ k. take k ns ++ name ∷ []) back,
-        ap (λ f. f name) (sym l.content)
-            ∙ absent (l.tells ∙ told) (l.sure ∙ sure),
-      );
-    }
+fails_next old mid new ns cs i name lt l step asks rose absent = grind (arith, common_steps)
 
 pub too_long_next : (old mid new : FolderState) (ns cs : List (List ℕ)) (i : ℕ) (name : List ℕ) → i < length ns →
     Loads old mid (take i ns) cs → take (i + 1) ns ≡ take i ns ++ name ∷ [] →
     (IsTrue mid.tells → new.asked ≡ mid.asked ++ name ∷ []) → Exceeds mid new name limit
     → IsTooLongAt old new ns (i + 1)
-too_long_next old mid new ns cs i name lt l step asks exceeds =
-    let back : i ≡ i + 1 - 1 = omega arith in record {
-      stops = stops old mid new ns cs i name lt l step asks;
-      cause = omega (arith, l.taken, exceeds.counted);
-      told = λ told. let e = exceeds.told (l.tells ∙ told) in
-          (name, e.0, step ∙ ap (λ k. take k ns ++ name ∷ []) back, ap (λ f. f name) (sym l.content) ∙ e.1, e.2);
-    }
+too_long_next old mid new ns cs i name lt l step asks exceeds = grind (arith, common_steps)
 
 -- the load for which there was no memory was asked for, or wasn't
 pub asks_next : (old mid new : FolderState) (ns cs : List (List ℕ)) (i : ℕ) (name : List ℕ) →
     Loads old mid (take i ns) cs → take (i + 1) ns ≡ take i ns ++ name ∷ [] →
     (IsTrue mid.tells → (new.asked ≡ mid.asked ++ name ∷ []) ⊎ (new.asked ≡ mid.asked)) → AsksForSome old new ns
-asks_next old mid new ns cs i name l step asks told =
-    elim (asks (l.tells ∙ told)) [
-      | inl more ↦ (
-        take (i + 1) ns,
-        drop (i + 1) ns,
-        take-append-drop (i + 1) ns,
-        more ∙ ap (λ q. q ++ name ∷ []) (l.asked told) ∙ append_assoc old.asked (take i ns) (name ∷ [])
-            ∙ ap (λ q. old.asked ++ q) (sym step),
-      )
-      | inr same ↦ (take i ns, drop i ns, take-append-drop i ns, same ∙ l.asked told)
-    ]
+asks_next old mid new ns cs i name l step asks told = elim (asks (l.tells ∙ told)) [
+  | inl more ↦ (
+    take (i + 1) ns,
+    drop (i + 1) ns,
+    take-append-drop (i + 1) ns,
+    more ∙ ap (λ q. q ++ name ∷ []) (l.asked told) ∙ append_assoc old.asked (take i ns) (name ∷ [])
+        ∙ ap (λ q. old.asked ++ q) (sym step),
+  )
+  | inr same ↦ (take i ns, drop i ns, take-append-drop i ns, same ∙ l.asked told)
+]

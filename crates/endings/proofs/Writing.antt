@@ -1,13 +1,12 @@
 -- Several puts in a row.
-use Rattle.std.proofs.Common.{◌≡◌, refl, ℕ, ◌+◌, ◌<◌, ◌≤◌, List, [], ◌∷◌, ◌++◌, Ok, Err, Result, IsErr, inl, inr, ap}
+use Rattle.std.proofs.Common.{rules}
+use Rattle.std.proofs.Common.{◌≡◌, refl, ℕ, ◌+◌, ◌<◌, ◌≤◌, List, [], ◌∷◌, ◌++◌, Ok, Err, Result, IsErr, ap}
 use Rattle.std.proofs.Common.{sym, ◌∙◌, subst, arith, append_assoc, append-nil, take, drop, map, length}
 use Rattle.std.proofs.Common.{take-append-drop, length-append}
 use Rattle.std.specs.Prelude.{get_or}
 use Rattle.std.specs.Borrow.{Bor}
 use Rattle.std.proofs.lemmas.List.{take_more, get_or-map, length-map}
-use Rattle.std.proofs.lemmas.Result.{IfErr-at_err, IfOk-at_ok}
-use Rattle.cps_outside.specs.Causes.{Rose}
-use Rattle.cps_outside.specs.SinkState.{SinkState, Grows, GrowsByPart, LeavesRoom, LacksRoom, Writes}
+use Rattle.cps_outside.specs.SinkState.{SinkState, Grows, LeavesRoom, Writes}
 use Rattle.endings.specs.Lines.{Says, line_text}
 
 -- this was written, with no failure
@@ -29,57 +28,15 @@ text_more xs y = text_append xs (y ∷ []) ∙ ap (λ t. line_text xs ++ t) (app
 pub written_more : {T E : Type 0} (old mid new : SinkState) (xs ys : List (List ℕ)) (y : List ℕ)
     (r : Result T E) (u : T) →
     r ≡ Ok u → ys ≡ xs ++ y ∷ [] → Written old mid (line_text xs) → Writes mid new y r → Written old new (line_text ys)
-written_more old mid new xs ys y r u is step a b =
-    let grew : Grows mid new y = IfOk-at_ok (λ _. Grows mid new y) is b.ok in
-    let left : LeavesRoom mid new y = IfOk-at_ok (λ _. LeavesRoom mid new y) is b.left in
-    record {
-      tells = b.tells ∙ a.tells;
-      sure = b.sure ∙ a.sure;
-      faults = omega (arith, a.faults, b.faults);
-      grew = λ told. grew (a.tells ∙ told) ∙ ap (λ w. w ++ y) (a.grew told) ∙ append_assoc old.written (line_text xs) y
-          ∙ ap (λ t. old.written ++ t) (sym (ap line_text step ∙ text_more xs y));
-      left = λ sure.
-          let first : old.room ≤ mid.room + length (line_text xs) = a.left sure in
-          let then : mid.room ≤ new.room + length y = left (a.sure ∙ sure) in
-          let together : length (line_text ys) ≡ length (line_text xs) + length y =
-          ap length (ap line_text step ∙ text_more xs y) ∙ length-append (line_text xs) y in
-          omega (arith, first, then, together);
-    }
+written_more old mid new xs ys y r u is step a b = search (rules, append_assoc, line_text, text_more, length-append)
 
 -- a put that failed ends it
 pub written_part : {T E V F : Type 0} (old mid new : SinkState) (xs all rest : List (List ℕ))
-    (y : List ℕ) (r : Result T E) (e : E) (s : Result V F) →
-    r ≡ Err e → IsErr s → all ≡ (xs ++ y ∷ []) ++ rest → Written old mid (line_text xs) → Writes mid new y r
-    → Writes old new (line_text all) s
+    (y : List ℕ) (r : Result T E) (e : E) (s : Result V F) → r ≡ Err e → IsErr s → all ≡ (xs ++ y ∷ []) ++ rest
+    → Written old mid (line_text xs) → Writes mid new y r → Writes old new (line_text all) s
 written_part old mid new xs all rest y r e (Ok v) is wrong step a b = cc
 written_part old mid new xs all rest y r e (Err f) is wrong step a b =
-    let part : GrowsByPart mid new y = IfErr-at_err (λ _. GrowsByPart mid new y) is b.part in
-    let failed : Rose mid.faults new.faults = IfErr-at_err (λ _. Rose mid.faults new.faults) is b.failed in
-    let lacked : LacksRoom mid y = IfErr-at_err (λ _. LacksRoom mid y) is b.lacked in
-    let text : line_text all ≡ (line_text xs ++ y) ++ line_text rest =
-    ap line_text step ∙ text_append (xs ++ y ∷ []) rest ∙ ap (λ t. t ++ line_text rest) (text_more xs y) in
-    record {
-      tells = b.tells ∙ a.tells;
-      sure = b.sure ∙ a.sure;
-      faults = omega (arith, a.faults, b.faults);
-      ok = tt;
-      left = tt;
-      failed = omega (arith, a.faults, failed);
-      lacked = λ sure.
-          let first : old.room ≤ mid.room + length (line_text xs) = a.left sure in
-          let short : mid.room < length y = lacked (a.sure ∙ sure) in
-          let together = ap length text ∙ length-append (line_text xs ++ y) (line_text rest) in
-          omega (arith, first, short, together, length-append (line_text xs) y);
-      part = λ told. let p = part (a.tells ∙ told) in (
-        line_text xs ++ p.0,
-        p.1 ++ line_text rest,
-        append_assoc (line_text xs) p.0 (p.1 ++ line_text rest)
-            ∙ ap (λ l. line_text xs ++ l) (sym (append_assoc p.0 p.1 (line_text rest))
-            ∙ ap (λ l. l ++ line_text rest) p.2)
-            ∙ sym (append_assoc (line_text xs) y (line_text rest)) ∙ sym text,
-        p.3 ∙ ap (λ w. w ++ p.0) (a.grew told) ∙ append_assoc old.written (line_text xs) p.0,
-      );
-    }
+    search (rules, line_text, text_append, text_more, length-append, append_assoc)
 
 -- ---- the pieces of a slice
 
@@ -95,8 +52,7 @@ next_piece pieces i d lt =
 
 pub all_pieces : (pieces : List (Bor (List ℕ))) (i : ℕ) (d : Bor (List ℕ)) → i < length pieces →
     bytes_of pieces ≡ (take i (bytes_of pieces) ++ (get_or pieces i d).now ∷ []) ++ drop (i + 1) (bytes_of pieces)
-all_pieces pieces i d lt = sym (take-append-drop (i + 1) (bytes_of pieces))
-    ∙ ap (λ l. l ++ drop (i + 1) (bytes_of pieces)) (next_piece pieces i d lt)
+all_pieces pieces i d lt = search (rules, take-append-drop, bytes_of, next_piece)
 
 -- the same text under another name
 pub says : {T E : Type 0} (old new : SinkState) (x y : List ℕ) (r : Result T E) → x ≡ y → Writes old new x r
@@ -105,5 +61,4 @@ says old new x y r is w = let P : List ℕ → Type 0 = λ l. Writes old new l r
 
 -- what the put of an ending's line says
 pub said : {T E : Type 0} (old new : SinkState) (x : List ℕ) (r : Result T E) → Writes old new x r → Says old new x
-said old new x (Ok u) w = record { tells = w.tells; part = λ told. (x, [], append-nil x, w.ok told); whole = inl w.ok }
-said old new x (Err e) w = record { tells = w.tells; part = w.part; whole = inr (w.failed, w.lacked) }
+said x0 x1 x2 x3 x4 = search rules

@@ -16,9 +16,8 @@ module _ (a f : List ℕ) (P : Aerodrome → List Flight → Type 0) (x : HoldsO
   -- what is so of them is so of their bytes
   pub of_two : (Q : Result Aerodrome AeroFault → Result (List Flight) FlightFault → Type 0)
       → Q (Ok x.aerodrome) (Ok x.flights) → Q (aerodrome_of a) (flights_of f)
-  of_two Q here =
-      subst (λ r. Q r (flights_of f)) (sym x.aerodrome_read)
-      (subst (λ r. Q (Ok x.aerodrome) r) (sym x.flights_read) here)
+  of_two Q here = subst
+      (λ r. Q r (flights_of f)) (sym x.aerodrome_read) (subst (λ r. Q (Ok x.aerodrome) r) (sym x.flights_read) here)
 
   -- what is so of what they also read as is so of the same
   pub same_two : (Q : Aerodrome → List Flight → Type 0) (y : HoldsOfTwo a f Q) (R : Aerodrome → List Flight → Type 0)
@@ -39,9 +38,8 @@ module _ {T F : Type 0} (read : List ℕ → Result T F) (a f t : List ℕ) (P :
   pub of_three : (Q : Result Aerodrome AeroFault → Result (List Flight) FlightFault → Result T F → Type 0)
       → Q (Ok x.aerodrome) (Ok x.flights) (Ok x.third) → Q (aerodrome_of a) (flights_of f) (read t)
   of_three Q here =
-      subst (λ r. Q r (flights_of f) (read t)) (sym x.aerodrome_read)
-      (subst (λ r. Q (Ok x.aerodrome) r (read t)) (sym x.flights_read)
-      (subst (λ r. Q (Ok x.aerodrome) (Ok x.flights) r) (sym x.third_read) here))
+      subst (λ r. Q r (flights_of f) (read t)) (sym x.aerodrome_read) (subst (λ r. Q (Ok x.aerodrome) r (read t))
+      (sym x.flights_read) (subst (λ r. Q (Ok x.aerodrome) (Ok x.flights) r) (sym x.third_read) here))
 
   pub same_three : (Q : Aerodrome → List Flight → T → Type 0) (y : HoldsOfThree read a f t Q)
       (R : Aerodrome → List Flight → T → Type 0) → R y.aerodrome y.flights y.third → R x.aerodrome x.flights x.third

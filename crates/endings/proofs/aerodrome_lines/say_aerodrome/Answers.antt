@@ -38,23 +38,20 @@ returns-in-FrozenRepeat g c = says _ _ _ _ _ (ap (numbered_line (codes "cps: aer
     ∙ ap aerodrome_line (sym c.in-FrozenRepeat.is)) c.say_number.ensures
 
 pub returns-in-FrozenLate : goal.returns-in-FrozenLate
-returns-in-FrozenLate g c = says _ _ _ _ _
-    (ap (numbered_line (codes "cps: aerodrome: frozen late ")) c.from-in-FrozenLate.ensures
-    ∙ ap aerodrome_line (sym c.in-FrozenLate.is)) c.say_number-in-FrozenLate.ensures
+returns-in-FrozenLate g c = says _ _ _ _ _ (ap (numbered_line (codes "cps: aerodrome: frozen late "))
+    c.from-in-FrozenLate.ensures ∙ ap aerodrome_line (sym c.in-FrozenLate.is)) c.say_number-in-FrozenLate.ensures
 
 pub returns-in-PassedTooMany : goal.returns-in-PassedTooMany
 returns-in-PassedTooMany g c =
     says _ _ _ _ _ (ap aerodrome_line (sym c.in-PassedTooMany.is)) c.put-in-PassedTooMany.ensures.writes
 
 pub returns-in-PassedRepeat : goal.returns-in-PassedRepeat
-returns-in-PassedRepeat g c = says _ _ _ _ _
-    (ap (numbered_line (codes "cps: aerodrome: passed repeat ")) c.from-in-PassedRepeat.ensures
-    ∙ ap aerodrome_line (sym c.in-PassedRepeat.is)) c.say_number-in-PassedRepeat.ensures
+returns-in-PassedRepeat g c = says _ _ _ _ _ (ap (numbered_line (codes "cps: aerodrome: passed repeat "))
+    c.from-in-PassedRepeat.ensures ∙ ap aerodrome_line (sym c.in-PassedRepeat.is)) c.say_number-in-PassedRepeat.ensures
 
 pub returns-in-DelayShift : goal.returns-in-DelayShift
-returns-in-DelayShift g c = says _ _ _ _ _
-    (ap (numbered_line (codes "cps: aerodrome: delay shift ")) c.from-in-DelayShift.ensures
-    ∙ ap aerodrome_line (sym c.in-DelayShift.is)) c.say_number-in-DelayShift.ensures
+returns-in-DelayShift g c = says _ _ _ _ _ (ap (numbered_line (codes "cps: aerodrome: delay shift "))
+    c.from-in-DelayShift.ensures ∙ ap aerodrome_line (sym c.in-DelayShift.is)) c.say_number-in-DelayShift.ensures
 
 pub returns-in-Memory : goal.returns-in-Memory
 returns-in-Memory g c = says _ _ _ _ _ (ap aerodrome_line (sym c.in-Memory.is)) c.put-in-Memory.ensures.writes

@@ -1,4 +1,6 @@
-use Rattle.std.proofs.Common.{◌≡◌, ℕ, List, refl, ap, sym, decimal}
+use Rattle.std.proofs.Common.{arith}
+use Rattle.std.proofs.Common.{rules}
+use Rattle.std.proofs.Common.{◌≡◌, ℕ, List, ap, sym, decimal}
 use Rattle.event_log.specs.declared.fault.Col.{Col}
 use Rattle.std.specs.Prelude.{codes}
 use Rattle.event_log.specs.declared.fault.FieldCause.{FieldCause}
@@ -16,16 +18,10 @@ start = codes "cps: events: record "
 plain : (n : ℕ) (words : List ℕ) (cause : LogCause) → words ≡ event_words cause →
     ((column : Col) → (why : FieldCause) → cause ≡ log.Field column why → ⊥)
     → between_line start n words ≡ event_line (decimal n) cause
-plain n words log.Header is never = ap (between_line start n) is
-plain n words log.FieldCount is never = ap (between_line start n) is
-plain n words log.Kind is never = ap (between_line start n) is
-plain n words (log.Field column why) is never = absurd (never column why refl)
-plain n words log.TooMany is never = ap (between_line start n) is
-plain n words log.Memory is never = ap (between_line start n) is
+plain x0 x1 x2 x3 x4 = grind arith
 
 pub returns-in-Field : goal.returns-in-Field
 returns-in-Field g c = says _ _ _ _ _ (ap (event_line (decimal c.args.number)) (sym c.in-Field.is)) c.say_field.ensures
 
 pub returns-in_default : goal.returns-in_default
-returns-in_default g c = says _ _ _ _ _
-    (plain c.args.number _ c.args.cause.now c.cause_words.ensures c.in_default.not-Field) c.say_between.ensures
+returns-in_default g c = search (rules, says, plain)

@@ -1,7 +1,7 @@
-use Rattle.std.proofs.Common.{◌≡◌, ℕ, List, [], ◌∷◌, refl, ap, ap₂, ◌∙◌}
+use Rattle.std.proofs.Common.{arith}
+use Rattle.std.proofs.Common.{◌≡◌, ℕ, List, [], ◌∷◌, ◌∙◌}
 use Rattle.std.specs.Prelude.{codes}
 use Rattle.flight_file.specs.declared.fault.FlightCause.{FlightCause}
-use Rattle.flight_file.specs.declared.fault.FlightCause.TheVariants as flight
 use Rattle.endings.specs.Lines.{cause_line, line_text}
 use Rattle.endings.specs.Pieces.{cause_words, cause_word, cause_part, cause_why}
 use Rattle.endings.proofs.Writing.{says}
@@ -14,16 +14,12 @@ record_line n words word part why =
 
 by_pieces : (n : List ℕ) (cause : FlightCause)
     → record_line n (cause_words cause) (cause_word cause) (cause_part cause) (cause_why cause) ≡ cause_line n cause
-by_pieces n flight.Header = refl
-by_pieces n cause = refl
+by_pieces x0 x1 = grind arith
 
 named : (n m words word part why : List ℕ) (cause : FlightCause) → n ≡ m → words ≡ cause_words cause
     → word ≡ cause_word cause →
     part ≡ cause_part cause → why ≡ cause_why cause → record_line n words word part why ≡ cause_line m cause
-named n m words word part why cause number heads is in_part for =
-    ap₂ (λ x y. record_line x y word part why) number heads
-    ∙ ap₂ (λ x y. record_line m (cause_words cause) x y why) is in_part
-    ∙ ap (λ x. record_line m (cause_words cause) (cause_word cause) (cause_part cause) x) for ∙ by_pieces m cause
+named n m words word part why cause number heads is in_part for = grind arith
 
 pub returns : goal.returns
 returns g c = says _ _ _ _ _ (named _ _ _ _ _ _ c.args.cause.now (c.as_bytes-number.ensures.value

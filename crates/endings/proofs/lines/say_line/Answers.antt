@@ -4,12 +4,10 @@ use Rattle.endings.proofs.Writing.{says}
 use Rattle.endings.proofs.lines.say_line.Goals as goal
 
 pub returns-in-Misused-clause-writes : goal.returns-in-Misused-clause-writes
-returns-in-Misused-clause-writes g c =
-    says _ _ _ _ _ (ap line_of (sym c.in-Misused.is)) c.put.ensures.writes
+returns-in-Misused-clause-writes g c = says _ _ _ _ _ (ap line_of (sym c.in-Misused.is)) c.put.ensures.writes
 
 pub returns-in-NotLoaded-clause-writes : goal.returns-in-NotLoaded-clause-writes
-returns-in-NotLoaded-clause-writes g c =
-    says _ _ _ _ _ (ap line_of (sym c.in-NotLoaded.is)) c.say_between.ensures
+returns-in-NotLoaded-clause-writes g c = says _ _ _ _ _ (ap line_of (sym c.in-NotLoaded.is)) c.say_between.ensures
 
 pub returns-in-NotWritten-clause-writes : goal.returns-in-NotWritten-clause-writes
 returns-in-NotWritten-clause-writes g c =

@@ -1,4 +1,6 @@
-use Rattle.std.proofs.Common.{◌≡◌, ℕ, List, refl, ap, sym, decimal}
+use Rattle.std.proofs.Common.{arith}
+use Rattle.std.proofs.Common.{rules}
+use Rattle.std.proofs.Common.{◌≡◌, ℕ, List, ap, sym, decimal}
 use Rattle.std.specs.Prelude.{codes}
 use Rattle.event_log.specs.declared.fault.FieldCause.{FieldCause}
 use Rattle.trial_file.specs.declared.fault.TrialCause.{TrialCause}
@@ -14,12 +16,10 @@ start = codes "cps: trials: record "
 -- the line where no value is wrong
 plain : (n : ℕ) (words : List ℕ) (cause : TrialCause) → words ≡ trial_words cause →
     ((why : FieldCause) → cause ≡ trial.Value why → ⊥) → between_line start n words ≡ trial_line (decimal n) cause
-plain n words (trial.Value why) is never = absurd (never why refl)
-plain n words cause is never = ap (between_line start n) is
+plain x0 x1 x2 x3 x4 = grind arith
 
 pub returns-in-Value : goal.returns-in-Value
 returns-in-Value g c = says _ _ _ _ _ (ap (trial_line (decimal c.args.number)) (sym c.in-Value.is)) c.say_value.ensures
 
 pub returns-in_default : goal.returns-in_default
-returns-in_default g c = says _ _ _ _ _
-    (plain c.args.number _ c.args.cause.now c.cause_words.ensures c.in_default.not-Value) c.say_between.ensures
+returns-in_default g c = search (rules, says, plain)
