@@ -4,7 +4,7 @@ use Rattle.std.specs.Prelude.{◌≡◌, ℕ, ◌≤◌, ◌<◌, min, List, len
 use Rattle.arrivals.specs.declared.aerodrome.Aerodrome.{Aerodrome}
 use Rattle.aerodrome_file.specs.Reading.{aerodrome_of}
 use Rattle.aerodrome_file.specs.declared.fault.AeroFault.{AeroFault}
-use Rattle.cps_base.specs.Limits.{most_waiting}
+use Rattle.cps_base.specs.Limits.{most_bytes, most_waiting}
 use Rattle.certificate.specs.declared.certificate.Claim.{Claim}
 use Rattle.certificate.specs.declared.certificate.Claim.TheVariants.{Infeasible}
 use Rattle.certificate.specs.States.{State}
@@ -60,4 +60,4 @@ abbrev pub CertifyIsLoadableLaw : Type 0
 CertifyIsLoadableLaw = (aerodrome flights text : List ℕ) (answer : Answer)
     → (printed : AdmitsCertify aerodrome flights text answer)
     → IsLoadable printed.aerodrome.objective printed.aerodrome.k (min most_waiting (length printed.flights))
-    → length text < 16777216
+    → length text < most_bytes

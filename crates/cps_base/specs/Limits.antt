@@ -1,6 +1,10 @@
 -- How many of each thing there may be at most, and the greatest numbers. This project's own.
 use Rattle.std.specs.Prelude.{ℕ}
 
+-- bytes of a file
+abbrev pub most_bytes : ℕ
+most_bytes = 16777216
+
 -- flights that wait
 abbrev pub most_waiting : ℕ
 most_waiting = 60

@@ -1,5 +1,8 @@
 //! How many of each thing there may be at most, and the greatest numbers. This project's own.
 
+/// How many bytes a file may have.
+pub const MOST_BYTES: usize = 16_777_216;
+
 /// How many flights may wait.
 pub const MOST_WAITING: u8 = 60;
 

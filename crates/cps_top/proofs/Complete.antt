@@ -3,6 +3,7 @@ use Rattle.std.proofs.Common.{◌≡◌, ◌≢◌, inl, inr, ℕ, ◌-◌, ◌�
 use Rattle.std.proofs.Common.{Option, IsTrue, ap, sym, ◌∙◌, subst, arith, take-append-drop}
 use Rattle.std.specs.List.{AllByRecursion}
 use Rattle.std.proofs.lemmas.Option.{same_Some}
+use Rattle.cps_base.specs.Limits.{most_bytes}
 use Rattle.cps_outside.specs.FolderState.{FolderState}
 use Rattle.cps_top.specs.declared.commands.Command.{Command}
 use Rattle.endings.specs.declared.ending.FilesFault.{FilesFault}
@@ -10,7 +11,7 @@ use Rattle.endings.specs.declared.ending.Ending.{Ending}
 use Rattle.endings.specs.declared.ending.Ending.TheVariants.{Answered, Misused, Refused, NotLoaded, NotWritten, TooLong}
 use Rattle.endings.specs.declared.ending.Ending.TheVariants.{NoMemory}
 use Rattle.cps_top.specs.Commands.{files_of, Refuses}
-use Rattle.endings.specs.Loads.{limit, Loads, FailsAt, IsTooLongAt}
+use Rattle.endings.specs.Loads.{Loads, FailsAt, IsTooLongAt}
 use Rattle.endings.specs.Lines.{status_of}
 use Rattle.endings.specs.Outside.{Outside}
 use Rattle.cps_top.specs.Outcome.{Ends, Serves, Follows}
@@ -33,10 +34,10 @@ loaded_same old new (n ∷ ns) held contents tells told loads =
 
 -- a content that is there and at most the limit
 pub Within : Option (List ℕ) → Type 0
-Within (Some bytes) = length bytes ≤ limit
+Within (Some bytes) = length bytes ≤ most_bytes
 Within None = ⊥
 
-all_within : (cs : List (List ℕ)) → AllByRecursion (λ b. length b ≤ limit) cs → AllByRecursion Within (map Some cs)
+all_within : (cs : List (List ℕ)) → AllByRecursion (λ b. length b ≤ most_bytes) cs → AllByRecursion Within (map Some cs)
 unfolding Within
 all_within [] all = tt
 all_within (c ∷ cs) all = (all.0, all_within cs all.1)
@@ -52,13 +53,13 @@ all_at P [] name after all = all.0
 all_at P (n ∷ before) name after all = all_at P before name after all.1
 
 pub within_fits : (bytes : List ℕ) (content : Option (List ℕ)) → content ≡ Some bytes → Within content
-    → length bytes ≤ limit
+    → length bytes ≤ most_bytes
 unfolding Within
 within_fits bytes content e within = subst Within e within
 
 -- a file among those that are there is within the limit
 pub part_within : (content : List ℕ → Option (List ℕ)) (names cs before after : List (List ℕ)) (name : List ℕ)
-    → map content names ≡ map Some cs → AllByRecursion (λ b. length b ≤ limit) cs
+    → map content names ≡ map Some cs → AllByRecursion (λ b. length b ≤ most_bytes) cs
     → names ≡ (before ++ name ∷ []) ++ after → Within (content name)
 part_within content names cs before after name told bounded split =
     all_at (λ n. Within (content n)) before name after (subst (AllByRecursion (λ n. Within (content n))) split
@@ -66,7 +67,7 @@ part_within content names cs before after name told bounded split =
 
 -- so is that of the name at a place
 named_within : (content : List ℕ → Option (List ℕ)) (ns cs : List (List ℕ)) (place : ℕ) (name : List ℕ)
-    → map content ns ≡ map Some cs → AllByRecursion (λ b. length b ≤ limit) cs
+    → map content ns ≡ map Some cs → AllByRecursion (λ b. length b ≤ most_bytes) cs
     → take place ns ≡ take (place - 1) ns ++ name ∷ [] → Within (content name)
 named_within content ns cs place name told bounded step =
     part_within content ns cs (take (place - 1) ns) (drop place ns) name told bounded

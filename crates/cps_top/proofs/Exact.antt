@@ -3,12 +3,13 @@ use Rattle.std.proofs.Common.{◌≡◌, refl, inl, inr, ℕ, zero, suc, ◌+◌
 use Rattle.std.proofs.Common.{drop, Some, IsTrue, ap, sym, ◌∙◌, arith, length-append, take-append-drop}
 use Rattle.std.proofs.lemmas.Bool.{cases_lt}
 use Rattle.std.proofs.lemmas.List.{take-append-le}
+use Rattle.cps_base.specs.Limits.{most_bytes}
 use Rattle.endings.specs.declared.ending.Ending.{Ending}
 use Rattle.endings.specs.declared.ending.Ending.TheVariants.{Answered, Misused, Refused, NotLoaded, NotWritten, TooLong}
 use Rattle.endings.specs.declared.ending.Ending.TheVariants.{NoMemory}
 use Rattle.cps_top.specs.Commands.{files_of}
 use Rattle.cps_outside.specs.FolderState.{FolderState}
-use Rattle.endings.specs.Loads.{limit, FailsAt, FailsWithin}
+use Rattle.endings.specs.Loads.{FailsAt, FailsWithin}
 use Rattle.endings.specs.Lines.{status_of}
 use Rattle.endings.specs.Outside.{Outside}
 use Rattle.cps_top.specs.Outcome.{Ends, Serves}
@@ -31,7 +32,7 @@ asked_before before after names name place le split =
 -- a load that failed is that of the first file that is too long, or of an earlier one
 fails_within : (old new : FolderState) (names before after : List (List ℕ)) (name bytes : List ℕ) (place : ℕ)
     → IsTrue old.tells →
-    names ≡ (before ++ name ∷ []) ++ after → old.content name ≡ Some bytes → limit < length bytes →
+    names ≡ (before ++ name ∷ []) ++ after → old.content name ≡ Some bytes → most_bytes < length bytes →
     FailsAt old new names place → FailsWithin old new (before ++ name ∷ [])
 fails_within old new names before after name bytes place tells split content longer fails = record {
   cause = fails.cause;
@@ -56,7 +57,7 @@ module _ (words : List (List ℕ)) (old new : Outside) (status : ℕ) where
   -- a command whose files were loaded has none that is too long
   none_longer : (ending : Ending) (before after : List (List ℕ)) (name bytes : List ℕ) → IsTrue old.folder.tells
       → files_of words ≡ (before ++ name ∷ []) ++ after → old.folder.content name ≡ Some bytes
-      → limit < length bytes → Serves words old new ending → ⊥
+      → most_bytes < length bytes → Serves words old new ending → ⊥
   none_longer ending before after name bytes tells split content longer s =
       let fits = within_fits bytes (old.folder.content name) content (part_within old.folder.content (files_of words)
       s.contents before after name (s.loads.told tells) s.loads.bounded split) in

@@ -2,6 +2,7 @@
 use Rattle.std.specs.Prelude.{[], ◌∷◌, ◌++◌, ◌<◌, ◌≡◌, ◌⊎◌, ◌↔◌, ℕ, ◌+◌, ◌≢◌, ◌≤◌, List, length, map, Some, None}
 use Rattle.std.specs.Prelude.{IsTrue}
 use Rattle.std.specs.List.{AllByRecursion}
+use Rattle.cps_base.specs.Limits.{most_bytes}
 use Rattle.cps_outside.specs.Causes.{RoseBy, Rose}
 use Rattle.cps_outside.specs.SinkState.{SinkState}
 use Rattle.cps_top.specs.declared.commands.Command.{Command}
@@ -9,7 +10,7 @@ use Rattle.endings.specs.declared.ending.Answer.{Answer}
 use Rattle.endings.specs.declared.ending.FilesFault.{FilesFault}
 use Rattle.cps_top.specs.Commands.{command_of, files_of, most_bytes, puts_of, Admits, Refuses, Stands}
 use Rattle.endings.specs.Lines.{answer_status}
-use Rattle.endings.specs.Loads.{limit, FailsAt, IsTooLongAt, AsksForSome, FailsWithin}
+use Rattle.endings.specs.Loads.{FailsAt, IsTooLongAt, AsksForSome, FailsWithin}
 use Rattle.openings.specs.Follows.{Prints}
 use Rattle.endings.specs.Outside.{Outside}
 
@@ -19,7 +20,7 @@ pub record Causes (words : List (List ℕ)) (old new : Outside) (status : ℕ) :
   pub usage : (status ≡ 2) ↔ (command_of words ≡ None)
   pub failed : status ≡ 4 → Rose old.folder.faults new.folder.faults
   pub unwritten : status ≡ 5 → Rose old.out.faults new.out.faults
-  pub too_long : status ≡ 6 → RoseBy (limit + 1) old.folder.taken new.folder.taken
+  pub too_long : status ≡ 6 → RoseBy (most_bytes + 1) old.folder.taken new.folder.taken
   -- `out` is as it was
   pub nothing_written : (status ≡ 2) ⊎ (status ≡ 3) ⊎ (status ≡ 4) ⊎ (status ≡ 6) → new.out ≡ old.out
 
@@ -42,7 +43,7 @@ pub record AreThere (words : List (List ℕ)) (old : Outside) (command : Command
   -- with no file it asks for no folder that tells
   pub tells : files_of words ≢ [] → IsTrue old.folder.tells
   pub told : map old.folder.content (files_of words) ≡ map Some contents
-  pub bounded : AllByRecursion (λ bytes. length bytes ≤ limit) contents
+  pub bounded : AllByRecursion (λ bytes. length bytes ≤ most_bytes) contents
 
 -- a text was written whole, with the status of its answer, or memory was short
 abbrev pub IsComplete : Command → List (List ℕ) → Outside → Outside → ℕ → Type 0
@@ -90,5 +91,5 @@ pub record IsExact (words : List (List ℕ)) (old new : Outside) (status : ℕ) 
   pub too_long : (command : Command) (before after : List (List ℕ)) (name bytes : List ℕ)
       → command_of words ≡ Some command →
       IsTrue old.folder.tells → files_of words ≡ (before ++ name ∷ []) ++ after →
-      old.folder.content name ≡ Some bytes → limit < length bytes →
+      old.folder.content name ≡ Some bytes → most_bytes < length bytes →
       (status ≡ 6) ⊎ (status ≡ 8) ⊎ ((status ≡ 4) × FailsWithin old.folder new.folder (before ++ name ∷ []))

@@ -1,7 +1,7 @@
 ghost use Rattle.std.specs.Prelude.{◌≡◌, ◌==◌, ◌&&◌, [], Some, IfSome, ◌≤◌, bytes_eq, length, map, slice_get};
 ghost use Rattle.std.specs.Prelude.{string_bytes, unwrap_or, vec_items};
 ghost use Rattle.std.specs.List.{AllByRecursion};
-ghost use Rattle.endings.specs.Loads.{limit};
+ghost use Rattle.cps_base.specs.Limits.{most_bytes};
 ghost use Rattle.cps_top.specs.Commands.{IsCommandInRange, TextsAreBoundedLaw, command_of, file_count, files_of};
 ghost use Rattle.cps_top.specs.Commands.{number_of, trial_of};
 ghost use Rattle.cps_top.specs.Outcome.{Follows};
@@ -145,7 +145,7 @@ pub(crate) fn perform<R: Threads + Sync, S: Sink, G: Gate + Sync>(
 ) -> Ending
     requires numbers { IsCommandInRange command }
     requires count { length contents.now ≡ file_count command }
-    requires bounded { AllByRecursion (λ bytes. length bytes ≤ limit)
+    requires bounded { AllByRecursion (λ bytes. length bytes ≤ most_bytes)
         (map vec_items contents.now) }
     ensures { Follows command (map vec_items contents.now)
         (S.state out.old) (S.state out.new) result }

@@ -6,9 +6,10 @@ use Rattle.std.proofs.Common.{take-append-drop}
 use Rattle.std.specs.List.{AllByRecursion}
 use Rattle.std.proofs.lemmas.List.{take_more, get_or-map, length-map}
 use Rattle.std.specs.Prelude.{slice_index_or}
+use Rattle.cps_base.specs.Limits.{most_bytes}
 use Rattle.cps_outside.specs.Causes.{Rose}
 use Rattle.cps_outside.specs.FolderState.{FolderState, IsAfterLoad, IsAbsent, Gives, Exceeds}
-use Rattle.endings.specs.Loads.{limit, Loads, StopsAt, FailsAt, IsTooLongAt, AsksForSome}
+use Rattle.endings.specs.Loads.{Loads, StopsAt, FailsAt, IsTooLongAt, AsksForSome}
 
 pub all-append : {X : Type 0} (P : X → Type 0) (xs : List X) (y : X) → AllByRecursion P xs
     → P y → AllByRecursion P (xs ++ y ∷ [])
@@ -37,7 +38,7 @@ asked_unless x0 x1 = grind arith
 
 pub loads_more : (old mid new : FolderState) (ns cs : List (List ℕ)) (i : ℕ) (name bytes : List ℕ) →
     Loads old mid (take i ns) cs → IsAfterLoad mid new → take (i + 1) ns ≡ take i ns ++ name ∷ [] →
-    (IsTrue mid.tells → new.asked ≡ mid.asked ++ name ∷ []) → Gives mid new name limit bytes →
+    (IsTrue mid.tells → new.asked ≡ mid.asked ++ name ∷ []) → Gives mid new name most_bytes bytes →
     Loads old new (take (i + 1) ns) (cs ++ bytes ∷ [])
 loads_more old mid new ns cs i name bytes l a step asks gives = grind (arith, common_steps)
 
@@ -55,7 +56,7 @@ fails_next old mid new ns cs i name lt l step asks rose absent = grind (arith, c
 
 pub too_long_next : (old mid new : FolderState) (ns cs : List (List ℕ)) (i : ℕ) (name : List ℕ) → i < length ns →
     Loads old mid (take i ns) cs → take (i + 1) ns ≡ take i ns ++ name ∷ [] →
-    (IsTrue mid.tells → new.asked ≡ mid.asked ++ name ∷ []) → Exceeds mid new name limit
+    (IsTrue mid.tells → new.asked ≡ mid.asked ++ name ∷ []) → Exceeds mid new name most_bytes
     → IsTooLongAt old new ns (i + 1)
 too_long_next old mid new ns cs i name lt l step asks exceeds = grind (arith, common_steps)
 

@@ -1,14 +1,11 @@
 -- What the loads of files leave, and how they may end early.
 use Rattle.std.specs.Prelude.{◌≡◌, ℕ, ◌+◌, ◌-◌, ◌<◌, ◌≤◌, List, [], ◌∷◌, ◌++◌, length, take, map, Some, None, IsTrue}
 use Rattle.std.specs.List.{AllByRecursion}
+use Rattle.cps_base.specs.Limits.{most_bytes}
 use Rattle.cps_outside.specs.Causes.{RoseBy, Rose}
 use Rattle.cps_outside.specs.FolderState.{FolderState}
 use Rattle.endings.specs.declared.ending.Ending.{Ending}
 use Rattle.endings.specs.declared.ending.Ending.TheVariants.{NotLoaded, TooLong, NoMemory}
-
--- the most bytes that a file may have
-abbrev pub limit : ℕ
-limit = 16777216
 
 -- The files of these names were loaded, one after another. They hold these contents.
 pub record Loads (old new : FolderState) (names contents : List (List ℕ)) : Type 0 where
@@ -20,7 +17,7 @@ pub record Loads (old new : FolderState) (names contents : List (List ℕ)) : Ty
   pub asked : IsTrue old.tells → new.asked ≡ old.asked ++ names
   pub told : IsTrue old.tells → map old.content names ≡ map Some contents
   pub count : length contents ≡ length names
-  pub bounded : AllByRecursion (λ bytes. length bytes ≤ limit) contents
+  pub bounded : AllByRecursion (λ bytes. length bytes ≤ most_bytes) contents
 
 -- The files before this one were loaded, and its load was the last.
 pub record StopsAt (old new : FolderState) (names : List (List ℕ)) (place : ℕ) : Type 0 where
@@ -28,7 +25,7 @@ pub record StopsAt (old new : FolderState) (names : List (List ℕ)) (place : �
   pub inside : place ≤ length names
   pub contents : List (List ℕ)
   pub earlier : IsTrue old.tells → map old.content (take (place - 1) names) ≡ map Some contents
-  pub bounded : AllByRecursion (λ bytes. length bytes ≤ limit) contents
+  pub bounded : AllByRecursion (λ bytes. length bytes ≤ most_bytes) contents
   pub asked : IsTrue old.tells → new.asked ≡ old.asked ++ take place names
 
 -- where the folder tells its contents and is sure, no file has the name of this place
@@ -45,10 +42,10 @@ pub record FailsAt (old new : FolderState) (names : List (List ℕ)) (place : �
 -- the file of this place is too long
 pub record IsTooLongAt (old new : FolderState) (names : List (List ℕ)) (place : ℕ) : Type 0 where
   pub stops : StopsAt old new names place
-  pub cause : RoseBy (limit + 1) old.taken new.taken
+  pub cause : RoseBy (most_bytes + 1) old.taken new.taken
   pub told : IsTrue old.tells → (name : List ℕ) × (bytes : List ℕ)
       × (take place names ≡ take (place - 1) names ++ name ∷ []) × (old.content name ≡ Some bytes)
-      × (limit < length bytes)
+      × (most_bytes < length bytes)
 
 -- some of the files were asked for, the first of them first
 abbrev pub AsksForSome : FolderState → FolderState → List (List ℕ) → Type 0

@@ -15,4 +15,4 @@ mod trial_lines;
 
 pub use ending::{Answer, Ending, FilesFault};
 pub use lines::{say, status};
-pub use loads::{LIMIT, load_all};
+pub use loads::load_all;

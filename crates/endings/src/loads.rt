@@ -2,16 +2,14 @@ ghost use Rattle.std.specs.Prelude.{◌<◌, ◌^◌, length, map, string_bytes,
 ghost use Rattle.endings.specs.Loads.{Loads, LoadsEnd};
 
 use crate::Ending;
+use cps_base::MOST_BYTES;
 use cps_outside::{Folder, LoadFault};
 use std::alloc::Global;
 
-/// The most bytes that a file may have.
-pub const LIMIT: usize = 16777216;
-
 /// The contents of the files of these names, loaded in their order, or how the loads ended early.
 ///
-/// They end at the first file whose load fails, that is longer than [`LIMIT`], or for which there is no memory; no later
-/// file is asked for.
+/// They end at the first file whose load fails, that is longer than [`MOST_BYTES`], or for which there is no memory;
+/// no later file is asked for.
 pub fn load_all<F: Folder>(
     alloc: Global,
     folder: &mut F,
@@ -27,7 +25,7 @@ pub fn load_all<F: Folder>(
     let mut contents = Vec::new(alloc);
     for (index, name) in names.iter().enumerate() {
         let place = index as u32 + 1;
-        match folder.load(name.as_str(), LIMIT) {
+        match folder.load(name.as_str(), MOST_BYTES) {
             Ok(bytes) => {
                 if contents.push(bytes).is_err() {
                     return Err(Ending::NoMemory);

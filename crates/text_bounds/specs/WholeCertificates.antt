@@ -3,7 +3,7 @@ use Rattle.std.specs.Prelude.{ℕ, zero, suc, ◌*◌, ◌<◌, ◌≤◌, lengt
 use Rattle.landing_rules.specs.declared.objective.Objective.{Objective}
 use Rattle.landing_rules.specs.declared.objective.Objective.TheVariants.{Makespan, Delay}
 use Rattle.landing_rules.specs.Flights.{Situation}
-use Rattle.cps_base.specs.Limits.{greatest_k, most_open_seconds, most_waiting}
+use Rattle.cps_base.specs.Limits.{greatest_k, most_bytes, most_open_seconds, most_waiting}
 use Rattle.landing_rules.specs.Problem.{IsProblemOf, Problem}
 use Rattle.landing_rules.specs.Sound.{IsSound}
 use Rattle.cps_problem.specs.WellFormed.{IsWellFormed}
@@ -37,4 +37,4 @@ IsLoadable Delay (suc (suc zero)) n = n ≤ 7
 IsLoadable Delay (suc (suc (suc k))) n = ⊥
 
 abbrev pub LoadableIsShortLaw : Type 0
-LoadableIsShortLaw = (o : Objective) (k n : ℕ) → IsLoadable o k n → whole_bound o k n < 16777216
+LoadableIsShortLaw = (o : Objective) (k n : ℕ) → IsLoadable o k n → whole_bound o k n < most_bytes
