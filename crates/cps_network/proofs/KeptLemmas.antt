@@ -1,10 +1,9 @@
 -- What is kept of an ascending list of windows is ascending.
-use Rattle.std.proofs.Common.{rules, ◌≡◌, ℕ, List, [], ◌∷◌, arith, ◌∙◌, subst, zero, suc}
+use Rattle.std.proofs.Common.{rules, ◌≡◌, ℕ, List, [], ◌∷◌, arith, zero, suc}
 use Rattle.std.proofs.lemmas.List.Elements.{Contains-get_or}
 use Rattle.std.proofs.lemmas.List.{get_or_default}
 use Rattle.std.specs.Prelude.{ℤ, Bool, true, false, Contains}
 use Rattle.std.specs.declared.cmp.Ordering.TheVariants.{Less}
-use Rattle.cps_nodes.specs.Windows.{IsWindow}
 use Rattle.cps_nodes.specs.WindowOrder.{window_cmp}
 use Rattle.cps_network.specs.Compacted.{kept_where}
 use Rattle.cps_network.specs.Lists.{node_at, IsAscending, AreWindows}

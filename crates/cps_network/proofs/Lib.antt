@@ -16,4 +16,6 @@ pub mod LinkLemmas
 pub mod GroupLemmas
 pub mod GroupLists
 pub mod GatherLemmas
+pub mod NextOrder
+pub mod GroupOrder
 pub mod NextLemmas

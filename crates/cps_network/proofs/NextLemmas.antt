@@ -1,13 +1,16 @@
 -- What is gathered from the groups of a stage are the windows of the next.
-use Rattle.std.proofs.Common.{[], ◌≡◌, ℕ, ◌+◌, ◌-◌, ◌*◌, ◌<◌, ◌≤◌, List, length, arith, ◌∙◌, sym, subst, inl, inr}
+use Rattle.std.proofs.Common.{[], ◌≡◌, ℕ, ◌+◌, ◌-◌, ◌*◌, ◌<◌, ◌≤◌, List, length, get_or, arith, ◌∙◌, sym, subst, inl}
+use Rattle.std.proofs.Common.{inr}
+use Rattle.std.proofs.lemmas.Int.{ints}
 use Rattle.std.proofs.lemmas.List.{get_or_default}
 use Rattle.std.proofs.lemmas.List.Elements.{Contains-get_or}
 use Rattle.std.specs.Prelude.{ℤ, All, Contains}
-use Rattle.cps_nodes.specs.Laws.{LeadOn}
-use Rattle.cps_nodes.specs.Windows.{IsWindow}
+use Rattle.cps_nodes.specs.Laws.{LeadOn, offset_after}
+use Rattle.cps_nodes.specs.Windows.{Accepts, IsWindow}
 use Rattle.landing_rules.specs.Problem.{Problem}
 use Rattle.cps_network.specs.declared.groups.Group.{Group}
-use Rattle.cps_network.specs.Extended.{AreGroupsOf, IsGroupOf, IsExtendable, FollowsBy, Follows, HasGrownBy, group_at}
+use Rattle.cps_network.specs.Extended.{AreGroupsOf, IsGroupOf, IsExtendable, FollowsBy, Follows, HasGrownBy}
+use Rattle.cps_network.specs.Extended.{group_at, offset_of}
 use Rattle.cps_network.specs.Lists.{node_at, AreWindows}
 use Rattle.cps_network.specs.Permits.{IsSuccessor, IsNextOf}
 use Rattle.cps_network.proofs.StageLemmas.{IsSuccessor-alike}
@@ -16,7 +19,16 @@ module _ (p : Problem) (stage width : ℕ) (before : List (List ℤ)) (odd : wid
   -- each group's front window accepts the offsets that it has
   pub all_extendable : (groups : List Group) → AreGroupsOf p stage before groups
       → All (IsExtendable width before) groups
-  all_extendable groups are i d lt = let is = are.each i d lt in grind arith
+  all_extendable groups are i d lt =
+      let is = are.each i d lt in
+      record {
+        within = omega (arith, is.range.some, is.range.within);
+        accepted = λ j has.
+            let may = (is.permitted j).0 has in
+            let same : offset_after stage (stage + 1 + j - p.k) ≡ offset_of width j =
+            omega (arith, ints, odd, may.from_one) in
+            subst (Accepts (node_at before (get_or groups i d).from)) same may.accepted;
+      }
 
   -- what follows a group extends its front window by a permitted rank
   follows_next : (group : Group) (j : ℕ) (x : List ℤ) → IsGroupOf p stage before group

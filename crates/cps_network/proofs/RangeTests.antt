@@ -1,6 +1,6 @@
 -- What `all` over a range says where its test says enough when it says yes, and what `find` says of what stands before
 -- the one that it finds.
-use Rattle.std.proofs.Common.{◌≡◌, ℕ, ◌-◌, ◌<◌, ◌≤◌, Bool, true, false, List, length, get_or, refl, subst, arith}
+use Rattle.std.proofs.Common.{◌≡◌, ℕ, ◌-◌, ◌<◌, ◌≤◌, Bool, true, false, List, length, get_or, refl, arith}
 use Rattle.std.proofs.Common.{Option, Some, None}
 use Rattle.std.specs.Prelude.{IsTrue, ⊤, unwrap_or, MatchOption}
 use Rattle.std.specs.Bool.{MatchBool}

@@ -1,5 +1,5 @@
 -- Legal prefixes of one stage and window place the same ranks.
-use Rattle.std.proofs.Common.{arith, ℕ, List, sym, ap, subst, ◌∙◌}
+use Rattle.std.proofs.Common.{arith, ℕ, List, subst}
 use Rattle.std.specs.Prelude.{◌≡◌, pos}
 use Rattle.cps_nodes.specs.Windows.{IsPlaced}
 use Rattle.cps_theory.specs.RankLists.{In}
@@ -7,7 +7,7 @@ use Rattle.cps_theory.specs.LegalPrefix.{Legal}
 use Rattle.cps_theory.specs.laws.LegalPrefix.{in_from_one, legal_each_fits}
 use Rattle.landing_joint.specs.RankedProblem.{ranked}
 use Rattle.landing_rules.specs.Problem.{Problem}
-use Rattle.cps_network.specs.Nodes.{Node, node_of, latest, IsWindowNetwork, WindowsTellNodes}
+use Rattle.cps_network.specs.Nodes.{Node, node_of, IsWindowNetwork, WindowsTellNodes}
 use Rattle.cps_network.specs.WindowRanks.{TellTheirRanks}
 
 module _ (p : Problem) (net : IsWindowNetwork p) (tells : TellTheirRanks p) where

@@ -1,7 +1,12 @@
 -- Groups of the windows of a stage with the offsets that extend them, and the windows that so follow.
-use Rattle.std.specs.Prelude.{◌≡◌, ℕ, ℤ, pos, ◌+◌, ◌-◌, ◌/◌, ◌-ℤ◌, ◌<◌, ◌≤◌, ◌⊎◌}
+use Rattle.std.specs.Prelude.{◌≡◌, ℕ, ℤ, pos, ◌+◌, ◌-◌, ◌/◌, ◌-ℤ◌, ◌<◌, ◌≤◌, ◌⊎◌, drop}
 use Rattle.std.specs.Prelude.{◌↔◌, List, length, slice_index_or, All, Contains}
+use Rattle.std.specs.declared.cmp.Ordering.TheVariants.{Less}
+use Rattle.std.specs.Ordering.{int_cmp}
+use Rattle.std.specs.Cmp.Lexicographic.{slice_cmp}
 use Rattle.precedence.specs.Pairs.{HasBit}
+use Rattle.cps_nodes.specs.Digits.{number_of}
+use Rattle.cps_nodes.specs.WindowOrder.{window_cmp}
 use Rattle.cps_nodes.specs.Windows.{Accepts, shifted}
 use Rattle.landing_rules.specs.Problem.{Problem}
 use Rattle.cps_network.specs.declared.groups.Group.{Group}
@@ -31,9 +36,11 @@ abbrev pub HasFree : Problem → ℕ → ℕ → Type 0
 HasFree p stage offsets = (j : ℕ) → HasBit offsets j
     ↔ (IsOpen p stage (stage + 1 + j - p.k) × IsReady p stage (stage + 1 + j - p.k))
 
--- a range of windows of a stage that share a tail, with the offsets of the ranks that are permitted after them
+-- a range of windows of a stage that share a tail, with the number of their offsets from the third on and the offsets
+-- of the ranks that are permitted after them
 pub record IsGroupOf (p : Problem) (stage : ℕ) (before : List (List ℤ)) (group : Group) : Type 0 where
   pub range : IsGroup before group.from group.to
+  pub order : group.order ≡ number_of (drop 2 (node_at before group.from))
   pub permitted : HasPermitted p stage (node_at before group.from) group.offsets
 
 -- the groups of a stage: each window is of one
@@ -71,3 +78,24 @@ Follows width before groups i next = (j : ℕ) × (j < width) × FollowsBy width
 abbrev pub HasGrownBy : (ℕ → List ℤ → Type 0) → ℕ → ℕ → List (List ℤ) → List (List ℤ) → Type 0
 HasGrownBy Adds from to start now = (x : List ℤ) → Contains now x
     ↔ (Contains start x ⊎ ((i : ℕ) × (from ≤ i) × (i < to) × Adds i x))
+
+-- ---- in the order of the windows that follow
+
+abbrev pub front : List (List ℤ) → List Group → ℕ → List ℤ
+front before groups i = node_at before (group_at groups i).from
+
+-- groups stand by their offsets from the third on, and where these are equal by the second
+pub record AreInNextOrder (before : List (List ℤ)) (groups : List Group) : Type 0 where
+  pub rising : (i j : ℕ) → i ≤ j → j < length groups → (group_at groups i).order ≤ (group_at groups j).order
+  pub level : (i j : ℕ) → i < length groups → j < length groups
+      → (group_at groups i).order ≡ (group_at groups j).order
+      → drop 2 (front before groups i) ≡ drop 2 (front before groups j)
+  pub further : (i j : ℕ) → i < length groups → j < length groups
+      → (group_at groups i).order < (group_at groups j).order
+      → slice_cmp int_cmp (drop 2 (front before groups i)) (drop 2 (front before groups j)) ≡ Less
+  pub tails : (i j : ℕ) → i < j → j < length groups
+      → window_cmp (drop 1 (front before groups i)) (drop 1 (front before groups j)) ≡ Less
+
+-- each window of a list is below all that are to come
+abbrev pub StandBefore : List (List ℤ) → (List ℤ → Type 0) → Type 0
+StandBefore now Comes = (x next : List ℤ) → Contains now x → Comes next → window_cmp x next ≡ Less

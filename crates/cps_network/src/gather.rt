@@ -1,10 +1,10 @@
 //! The windows of the next stage, gathered from groups.
 
-ghost use Rattle.std.specs.Prelude.{◌≡◌, ℕ, pos, ◌+◌, ◌-◌, ◌*◌, ◌/◌, ◌<◌, ◌≤◌, ◌⊎◌, ◌↔◌, length, All, OnOk, Contains, [], ◌∷◌, ◌++◌};
-ghost use Rattle.cps_network.specs.Lists.{most_in_a_stage};
+ghost use Rattle.std.specs.Prelude.{◌≡◌, ℕ, pos, ◌+◌, ◌-◌, ◌*◌, ◌/◌, ◌<◌, ◌≤◌, ◌⊎◌, ◌↔◌, length, not, All, IsTrue, OnOk, Contains, [], ◌∷◌, ◌++◌};
+ghost use Rattle.cps_network.specs.Lists.{AreWindows, IsAscending, most_in_a_stage};
 ghost use Rattle.precedence.specs.Pairs.{HasBit};
 ghost use Rattle.cps_nodes.specs.Windows.{IsWidth};
-ghost use Rattle.cps_network.specs.Extended.{Follows, FollowsBy, HasGrownBy, IsExtendable, group_at, offset_of};
+ghost use Rattle.cps_network.specs.Extended.{AreInNextOrder, Follows, FollowsBy, HasGrownBy, IsExtendable, StandBefore, group_at, offset_of};
 
 use crate::groups::Group;
 use cps_nodes::Window;
@@ -55,7 +55,10 @@ fn add_next<const W: usize>(
     requires bit { j < W }
     requires group { IsExtendable W before.now group }
     requires few { place ≤ most_in_a_stage }
-    ensures { OnOk result ((x : _) → Contains gathered.new.windows.items x
+    requires ascending { IsAscending gathered.old.windows.items }
+    requires before { StandBefore gathered.old.windows.items (FollowsBy W before.now group j) }
+    ensures ascending { OnOk result (IsAscending gathered.new.windows.items) }
+    ensures members { OnOk result ((x : _) → Contains gathered.new.windows.items x
         ↔ (Contains gathered.old.windows.items x ⊎ FollowsBy W before.now group j x)) }
 {
     if !group.has(j) {
@@ -79,7 +82,13 @@ fn add_by<const W: usize>(
     requires groups { All (IsExtendable W before.now) groups.now }
     requires few { length groups.now ≤ most_in_a_stage }
     requires block { (block.0 ≤ block.1) × (block.1 ≤ length groups.now) }
-    ensures { OnOk result (HasGrownBy (λ i x. FollowsBy W before.now (group_at groups.now i) j x)
+    requires valid { AreWindows W before.now }
+    requires order { AreInNextOrder before.now groups.now }
+    requires ascending { IsAscending gathered.old.windows.items }
+    requires before { StandBefore gathered.old.windows.items
+        (λ x. (i : ℕ) × (block.0 ≤ i) × (i < block.1) × FollowsBy W before.now (group_at groups.now i) j x) }
+    ensures ascending { OnOk result (IsAscending gathered.new.windows.items) }
+    ensures members { OnOk result (HasGrownBy (λ i x. FollowsBy W before.now (group_at groups.now i) j x)
         block.0 block.1 gathered.old.windows.items gathered.new.windows.items) }
 {
     for place in block.0..block.1 {
@@ -99,7 +108,15 @@ fn add_block<const W: usize>(
     requires groups { All (IsExtendable W before.now) groups.now }
     requires few { length groups.now ≤ most_in_a_stage }
     requires block { (block.0 ≤ block.1) × (block.1 ≤ length groups.now) }
-    ensures { OnOk result (HasGrownBy (Follows W before.now groups.now) block.0 block.1
+    requires level { (i : ℕ) → block.0 ≤ i → i < block.1
+        → (group_at groups.now i).order ≡ (group_at groups.now block.0).order }
+    requires valid { AreWindows W before.now }
+    requires order { AreInNextOrder before.now groups.now }
+    requires ascending { IsAscending gathered.old.windows.items }
+    requires before { StandBefore gathered.old.windows.items
+        (λ x. (i : ℕ) × (block.0 ≤ i) × (i < block.1) × Follows W before.now groups.now i x) }
+    ensures ascending { OnOk result (IsAscending gathered.new.windows.items) }
+    ensures members { OnOk result (HasGrownBy (Follows W before.now groups.now) block.0 block.1
         gathered.old.windows.items gathered.new.windows.items) }
 {
     for j in 0..W as u8 {
@@ -112,19 +129,25 @@ fn add_block<const W: usize>(
 fn end_of_block(groups: &[Group], from: usize) -> usize
     requires within { from < length groups.now }
     requires few { length groups.now ≤ most_in_a_stage }
-    ensures { (from < result) × (result ≤ length groups.now) }
+    ensures range { (from < result) × (result ≤ length groups.now) }
+    ensures level { (i : ℕ) → from ≤ i → i < result
+        → (group_at groups.now i).order ≡ (group_at groups.now from).order }
+    ensures ends { result < length groups.now
+        → (group_at groups.now result).order ≡ (group_at groups.now from).order → ⊥ }
 {
     let order = groups[from].order;
     (from + 1..groups.len())
         .find(
             |to: &usize| -> bool
                 requires { to.now < length groups.now }
+                ensures { IsTrue (not result)
+                    ↔ ((group_at groups.entry.now to.now).order ≡ order) }
             { groups[*to].order != order },
         )
         .unwrap_or(groups.len())
 }
 
-// Adds the windows that follow groups. Where the groups stand in the order of what they lead to, they do too.
+// Adds the windows that follow groups, which stand in the order of what they lead to.
 pub(crate) fn gather<const W: usize>(
     before: &[Window<W>],
     groups: &[Group],
@@ -133,7 +156,11 @@ pub(crate) fn gather<const W: usize>(
     requires width { IsWidth W }
     requires groups { All (IsExtendable W before.now) groups.now }
     requires few { length groups.now ≤ most_in_a_stage }
-    ensures { OnOk result (HasGrownBy (Follows W before.now groups.now) 0 (length groups.now)
+    requires valid { AreWindows W before.now }
+    requires order { AreInNextOrder before.now groups.now }
+    requires none { gathered.old.windows.items ≡ [] }
+    ensures ascending { OnOk result (IsAscending gathered.new.windows.items) }
+    ensures members { OnOk result (HasGrownBy (Follows W before.now groups.now) 0 (length groups.now)
         gathered.old.windows.items gathered.new.windows.items) }
 {
     let mut from = 0;

@@ -1,9 +1,9 @@
 //! The groups of the windows of a stage, with what may land after them.
 
-ghost use Rattle.std.specs.Prelude.{◌≡◌, ℕ, pos, ◌+◌, ◌-◌, ◌*◌, ◌/◌, ◌<◌, ◌≤◌, ◌⊎◌, ◌↔◌, length, drop, not, IsTrue, IfOk};
+ghost use Rattle.std.specs.Prelude.{◌≡◌, ℕ, pos, ◌+◌, ◌-◌, ◌*◌, ◌/◌, ◌<◌, ◌≤◌, ◌⊎◌, ◌↔◌, length, drop, not, AllPairs, IsTrue, IfOk};
 ghost use Rattle.precedence.specs.Pairs.{HasBit};
 ghost use Rattle.cps_nodes.specs.Windows.{IsPlaced};
-ghost use Rattle.cps_network.specs.Extended.{AreGroupsOf, HasFree, HasOpen, HasPermitted, IsGroupOf, group_at};
+ghost use Rattle.cps_network.specs.Extended.{AreGroupsOf, AreInNextOrder, HasFree, HasOpen, HasPermitted, IsGroupOf, group_at};
 ghost use Rattle.cps_network.specs.Links.{range_at};
 ghost use Rattle.cps_network.specs.Lists.{AreWindows, IsAscending, most_in_a_stage, node_at};
 ghost use Rattle.cps_network.specs.Permits.{IsPermitted};
@@ -170,6 +170,7 @@ fn groups_of<const W: usize>(
     requires ascending { IsAscending before.now }
     ensures groups { IfOk result (λ groups. AreGroupsOf problem.now stage before.now groups.items) }
     ensures few { IfOk result (λ groups. length groups.items ≤ most_in_a_stage) }
+    ensures rising { IfOk result (λ groups. AllPairs (λ a later. a.from < later.from) groups.items) }
 {
     let due = due_set(stage, most_shift(problem));
     let ahead = ahead_of(problem, stage);
@@ -195,8 +196,10 @@ pub(crate) fn groups_in_order<const W: usize>(
     requires stage { stage < length problem.now.flights }
     requires few { length before.now ≤ most_in_a_stage }
     requires ascending { IsAscending before.now }
+    requires valid { AreWindows W before.now }
     ensures groups { IfOk result (λ groups. AreGroupsOf problem.now stage before.now groups.items) }
     ensures few { IfOk result (λ groups. length groups.items ≤ most_in_a_stage) }
+    ensures order { IfOk result (λ groups. AreInNextOrder before.now groups.items) }
 {
     let mut groups = groups_of(alloc, problem, stage, before)?;
     groups.sort_by_key(|group: &Group| group.order)?;

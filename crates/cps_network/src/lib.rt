@@ -13,7 +13,6 @@ mod laws;
 mod links;
 mod next;
 mod node;
-mod order;
 mod permit;
 mod source_range;
 mod stage;

@@ -3,7 +3,7 @@
 ghost use Rattle.std.specs.Prelude.{◌≡◌, ℕ, ◌+◌, ◌*◌, ◌<◌, ◌≤◌, [], length, IfOk};
 ghost use Rattle.cps_base.specs.Limits.{most_waiting};
 ghost use Rattle.cps_nodes.specs.Windows.{IsWidth};
-ghost use Rattle.cps_network.specs.Extended.{AreGroupsOf, AreRanges};
+ghost use Rattle.cps_network.specs.Extended.{AreGroupsOf, AreInNextOrder, AreRanges};
 ghost use Rattle.cps_network.specs.Landable.{HoldsCandidates};
 ghost use Rattle.cps_network.specs.Lists.{AreWindows, IsAscending, most_in_a_stage};
 ghost use Rattle.cps_network.specs.Permits.{IsNextOf};
@@ -11,7 +11,6 @@ ghost use Rattle.cps_network.specs.Permits.{IsNextOf};
 use crate::gather::{Gathered, gather};
 use crate::groups::{Group, groups_in_order, ranges_of};
 use crate::links::Links;
-use crate::order::in_order;
 use crate::stage::Stage;
 use cps_nodes::{Window, window_laws};
 use cps_problem::{Objective, Problem};
@@ -68,6 +67,7 @@ fn next_windows<const W: usize>(
     requires stage { stage < length problem.now.flights }
     requires valid { AreWindows W before.now }
     requires groups { AreGroupsOf problem.now stage before.now groups.now }
+    requires order { AreInNextOrder before.now groups.now }
     requires few { length groups.now ≤ most_in_a_stage }
     ensures ascending { IfOk result (λ g. IsAscending g.windows.items) }
     ensures exact { IfOk result (λ g. IsNextOf problem.now stage before.now g.windows.items) }
@@ -78,12 +78,7 @@ fn next_windows<const W: usize>(
     window_laws::<W>();
     let mut gathered = room_for(alloc, problem, groups)?;
     gather(before, groups, &mut gathered)?;
-    let windows = in_order(gathered.windows)?;
-    Ok(Gathered {
-        windows,
-        places: gathered.places,
-        are_linked: gathered.are_linked,
-    })
+    Ok(gathered)
 }
 
 // The stage of these windows. Where they are those of the stage before, it shares that one's list.

@@ -2,50 +2,23 @@
 use Rattle.std.proofs.Common.{rules, ◌≡◌, ℕ, zero, suc, ◌+◌, ◌-◌, ◌*◌, ◌/◌, ◌%◌, ◌^◌, ◌<◌, List, ◌∷◌, ◌++◌, drop, take}
 use Rattle.std.proofs.Common.{replicate, refl, ap, ap₂, sym, subst, ◌∙◌, arith, shr-shr, mod-lt, pow_pos, mod-eq_of_lt}
 use Rattle.std.proofs.Common.{[], pow-add}
-use Rattle.std.specs.Prelude.{ℤ, pos, negsuc, nat_abs, ◌-ℤ◌, ◌<ℤ◌, ◌≤ℤ◌, ◌==◌}
+use Rattle.std.specs.Prelude.{ℤ, pos, negsuc, nat_abs, ◌-ℤ◌, ◌≤ℤ◌, ◌==◌}
 use Rattle.std.proofs.lemmas.Int.{ints}
 use Rattle.std.proofs.lemmas.Nat.{field_of, shr_below}
 use Rattle.std.proofs.Math.Pow.{mod-mod-pow}
 use Rattle.std.proofs.Math.Seq.{take-append_seam}
 use Rattle.std.specs.declared.cmp.Ordering.{Ordering}
-use Rattle.std.specs.declared.cmp.Ordering.TheVariants.{Less, Equal, Greater}
-use Rattle.std.specs.Ordering.{int_eq, int_cmp, nat_cmp, is_eq, ordering_then, MatchOrdering}
-use Rattle.std.specs.Cmp.{nat_cmp_is, ranks, int_ranks, unsigned_tied}
+use Rattle.std.specs.declared.cmp.Ordering.TheVariants.{Equal}
+use Rattle.std.specs.Ordering.{int_eq, int_cmp, nat_cmp, is_eq, ordering_then}
+use Rattle.std.specs.Cmp.{nat_cmp_is, unsigned_tied}
 use Rattle.std.specs.Cmp.Lexicographic.{slice_cmp, pointwise, lists_ties}
 use Rattle.cps_nodes.specs.Windows.{offset_at, shifted}
 use Rattle.cps_nodes.specs.WindowOrder.{window_cmp}
 use Rattle.cps_nodes.specs.Digits.{digit_offset, offsets_of, order_key, number_of, length-offsets_of, mod-digit}
 use Rattle.cps_nodes.specs.Digits.{number-offsets_of}
+use Rattle.cps_nodes.specs.shared.NumberOrder.{digits_compare}
 
 -- ---- the order
-
-below : (a b p m n : ℕ) → a < b → m < p → a * p + m < b * p + n
-below a b p m n h l = grind arith
-
-same_digit : (a b p m n : ℕ) → a ≡ b → nat_cmp m n ≡ nat_cmp (a * p + m) (b * p + n)
-same_digit a b p m n e = by (nat_cmp m n) (ranks m n)
-  where
-    same : a * p ≡ b * p
-    same = ap (λ (d : ℕ). d * p) e
-
-    by : (r : Ordering) → MatchOrdering r (m < n) (m ≡ n) (n < m) → r ≡ nat_cmp (a * p + m) (b * p + n)
-    by Less h = nat_cmp_is (a * p + m) (b * p + n) Less (omega (arith, same, h))
-    by Equal h = nat_cmp_is (a * p + m) (b * p + n) Equal (omega (arith, same, h))
-    by Greater h = nat_cmp_is (a * p + m) (b * p + n) Greater (omega (arith, same, h))
-
--- the higher digit decides before the lower ones
-digits_compare : (a b p m n : ℕ) → m < p → n < p
-    → ordering_then (int_cmp (pos a -ℤ pos 8) (pos b -ℤ pos 8)) (nat_cmp m n) ≡ nat_cmp (a * p + m) (b * p + n)
-digits_compare a b p m n l r =
-    by (int_cmp (pos a -ℤ pos 8) (pos b -ℤ pos 8)) (int_ranks (pos a -ℤ pos 8) (pos b -ℤ pos 8))
-  where
-    by : (o : Ordering)
-        → MatchOrdering o ((pos a -ℤ pos 8) <ℤ (pos b -ℤ pos 8)) ((pos a -ℤ pos 8) ≡ (pos b -ℤ pos 8))
-        ((pos b -ℤ pos 8) <ℤ (pos a -ℤ pos 8))
-        → ordering_then o (nat_cmp m n) ≡ nat_cmp (a * p + m) (b * p + n)
-    by Less h = nat_cmp_is _ _ Less (below a b p m n (omega (arith, ints, h)) l)
-    by Equal h = same_digit a b p m n (omega (arith, ints, h))
-    by Greater h = nat_cmp_is _ _ Greater (below b a p n m (omega (arith, ints, h)) r)
 
 -- lists of offsets stand in the order of their numbers
 pub slice_cmp-offsets_of : (width m n : ℕ)

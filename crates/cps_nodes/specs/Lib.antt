@@ -6,3 +6,4 @@ pub mod Leads
 pub mod Laws
 pub mod Digits
 pub mod Held
+pub mod shared

@@ -7,6 +7,7 @@ use Rattle.cps_nodes.specs.Windows.{Accepts, shifted}
 use Rattle.cps_network.specs.Extended.{offset_of}
 use Rattle.cps_network.specs.Lists.{node_at}
 use Rattle.cps_network.proofs.GatherLemmas.{one_follows}
+use Rattle.cps_network.proofs.ListLemmas.{ascends_on}
 use Rattle.cps_network.proofs.gather.add_next.Goals as goal
 
 -- a number of a byte is the same in a byte
@@ -32,13 +33,25 @@ after-next-requires g c =
       ),
     )
 
-pub returns : goal.returns
-returns g c =
+-- the window that is added
+next_is : (g : _) (c : goal.In_ok-push g)
+    → c.after-next.result ≡ shifted (node_at c.args.before.now c.args.group.from) (offset_of g.row.W c.args.j)
+next_is g c =
     let front : c.index-before-group.result ≡ node_at c.args.before.now c.args.group.from =
     c.index-before-group.is ∙ get_or_default c.args.before.now c.args.group.from
     c.index-before-group.result [] c.requires.group.within in
     let offset : to_z w8 (of_z w8 c.offset_of.result) ≡ offset_of g.row.W c.args.j =
     same_byte _ _ c.offset_of.ensures c.offset_of.type_inv in
-    one_follows g.row.W c.args.before.now _ _ _ _ _ (c.has.ensures.0 c.if-not-has.false)
-    (c.after-next.ensures ∙ ap (shifted c.index-before-group.result) offset
-    ∙ ap (λ xs. shifted xs (offset_of g.row.W c.args.j)) front) c.in_ok-push.ensures
+    c.after-next.ensures ∙ ap (shifted c.index-before-group.result) offset
+    ∙ ap (λ xs. shifted xs (offset_of g.row.W c.args.j)) front
+
+pub returns-clause-ascending : goal.returns-clause-ascending
+returns-clause-ascending g c =
+    ascends_on _ _ _ c.requires.ascending
+    (λ x has. c.requires.before x _ has (record { offset = c.has.ensures.0 c.if-not-has.false; is = next_is g c }))
+    c.in_ok-push.ensures
+
+pub returns-clause-members : goal.returns-clause-members
+returns-clause-members g c =
+    one_follows g.row.W c.args.before.now _ _ _ _ _ (c.has.ensures.0 c.if-not-has.false) (next_is g c)
+    c.in_ok-push.ensures

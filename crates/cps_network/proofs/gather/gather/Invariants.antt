@@ -1,5 +1,6 @@
-use Rattle.std.proofs.Common.{◌-◌, ◌≤◌, length}
-use Rattle.cps_network.specs.Extended.{Follows, HasGrownBy}
+use Rattle.std.proofs.Common.{ℕ, ◌-◌, ◌<◌, ◌≤◌, length}
+use Rattle.cps_network.specs.Extended.{Follows, HasGrownBy, group_at}
+use Rattle.cps_network.specs.Lists.{IsAscending}
 use Rattle.cps_network.proofs.gather.gather.Given as goal
 
 abbrev pub invariant-loop-from : goal.invariant-loop-from
@@ -7,6 +8,9 @@ invariant-loop-from g l = record {
   grown : HasGrownBy (Follows g.row.W l.before l.groups) 0 l.from l.initial.gathered.windows.items
       l.gathered.windows.items;
   within : l.from ≤ length l.groups;
+  ascending : IsAscending l.gathered.windows.items;
+  past : (i : ℕ) → i < l.from → l.from < length l.groups
+      → (group_at l.groups i).order < (group_at l.groups l.from).order;
 }
 
 abbrev pub decreases-loop-from : goal.decreases-loop-from

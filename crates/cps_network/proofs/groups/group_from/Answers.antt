@@ -1,5 +1,6 @@
 use Rattle.std.proofs.Common.{◌≡◌, ◌∙◌, [], ap, sym, subst, drop}
 use Rattle.std.proofs.lemmas.List.{get_or_default}
+use Rattle.cps_nodes.specs.Digits.{number_of}
 use Rattle.cps_network.specs.Extended.{HasPermitted}
 use Rattle.cps_network.specs.Lists.{node_at}
 use Rattle.cps_network.proofs.GroupLemmas.{group_here}
@@ -15,6 +16,7 @@ returns-clause-group g c =
           c.end_of_group-to.ensures.range.0 c.end_of_group-to.ensures.range.1
           (λ i low high. c.end_of_group-to.ensures.same i low high ∙ ap (drop 1) front)
           (λ lt e. c.end_of_group-to.ensures.ends lt (e ∙ sym (ap (drop 1) front)));
+      order = c.order_of_next.ensures ∙ ap (λ xs. number_of (drop 2 xs)) front;
       permitted = subst (λ xs. HasPermitted c.args.problem.now c.args.stage xs c.permitted_offsets.result) front
           c.permitted_offsets.ensures;
     }

@@ -8,3 +8,6 @@ loop-from-preserved g c =
     subst (λ groups. upto groups c.group_from-group.result.to) (sym c.in_ok-push.ensures.items)
     (more_groups _ _ _ _ _ (subst (upto c.loop-from.groups.items) (sym c.group_from-group.ensures.from)
     c.loop-from.invariant) c.group_from-group.ensures.group)
+
+pub returns-clause-rising : goal.returns-clause-rising
+returns-clause-rising g c = c.loop-from.invariant.rising

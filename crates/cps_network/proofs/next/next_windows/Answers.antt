@@ -7,36 +7,21 @@ use Rattle.cps_network.proofs.NextLemmas.{all_extendable, gathered_is_next}
 use Rattle.cps_network.proofs.next.next_windows.Goals as goal
 
 pub gather-requires : goal.gather-requires
-gather-requires g c = (
-  omega arith,
-  (
-    omega arith,
-    (
-      search rules,
-      (
-        all_extendable c.args.problem.now c.args.stage g.row.W _ c.requires.width _ c.requires.groups,
-        c.requires.few,
-      ),
-    ),
-  ),
-)
+gather-requires g c =
+    let each = all_extendable c.args.problem.now c.args.stage g.row.W _ c.requires.width _ c.requires.groups in
+    search (rules, arith)
 
--- the windows gathered are those of the next stage, and in order they are the same
-next_is : (g : _) (c : goal.In_ok-windows g)
-    → IsNextOf c.args.problem.now c.args.stage c.args.before.now c.in_ok-windows.windows.items
+-- the windows gathered are those of the next stage
+next_is : (g : _) (c : goal.In_ok-gather g)
+    → IsNextOf c.args.problem.now c.args.stage c.args.before.now c.gather.new.gathered.windows.items
 next_is g c =
     let grown : HasGrownBy (Follows g.row.W c.args.before.now c.args.groups.now) 0 (length c.args.groups.now) []
     c.gather.new.gathered.windows.items =
     subst (λ (start : List (List ℤ)). HasGrownBy (Follows g.row.W c.args.before.now c.args.groups.now) 0
     (length c.args.groups.now) start c.gather.new.gathered.windows.items) c.in_ok-gathered.ensures
-    c.in_ok-gather.ensures in
-    let all : IsNextOf c.args.problem.now c.args.stage c.args.before.now c.gather.new.gathered.windows.items =
+    c.in_ok-gather.ensures.members in
     gathered_is_next c.args.problem.now c.args.stage g.row.W _ c.requires.width _ _ c.window_laws.ensures.leads
-    c.requires.valid c.requires.groups grown in
-    λ x. (
-      λ has. (all x).0 ((c.in_ok-windows.ensures.members x).0 has),
-      λ has. (c.in_ok-windows.ensures.members x).1 ((all x).1 has),
-    )
+    c.requires.valid c.requires.groups grown
 
 pub returns-clause-exact : goal.returns-clause-exact
 returns-clause-exact g c = next_is g c
