@@ -10,6 +10,7 @@ TABLE = {
     "E": [60, 60, 60, 60, 60, 100],
     "F": [60, 60, 60, 60, 60, 60],
 }
+LETTERS = list(TABLE)
 WINDOW = 7_200  # seconds
 COLUMNS = ["callsign", "category", "eta", "weight", "windows", "after"]
 
@@ -40,7 +41,7 @@ def traffic(seed, count, spacing=60):
 
     for number in range(1, count + 1):
         estimate += spacing + draw(60)
-        category, weight = "ABCDEF"[draw(6)], 1 + draw(5)
+        category, weight = LETTERS[draw(len(LETTERS))], 1 + draw(5)
         flights.append(Flight(f"T{number:03}", category, estimate, weight, (estimate, estimate + WINDOW - 1)))
     return flights
 

@@ -17,7 +17,7 @@ class Answer:
 
 
 def separation(table, leader, follower):
-    return table[leader.category]["ABCDEF".index(follower.category)]
+    return table[leader.category][sorted(table).index(follower.category)]
 
 
 def precedences(flights):

@@ -10,13 +10,14 @@ import random
 import sys
 from pathlib import Path
 
-LETTERS = 'ABCDEF'
-TABLE = [[90, 110, 120, 130, 140, 180], [60, 90, 100, 110, 120, 160], [60, 60, 60, 60, 100, 140],
-         [60, 60, 60, 60, 60, 120], [60, 60, 60, 60, 60, 100], [60, 60, 60, 60, 60, 60]]
+sys.path.insert(0, str(Path(__file__).resolve().parents[1]))
+sys.dont_write_bytecode = True
+from traffic import LETTERS, TABLE
+
 HEADER = 'callsign,category,eta,weight,windows,after\n'
 
 
-def aerodrome(version, k, objective, table=TABLE, more=''):
+def aerodrome(version, k, objective, table=TABLE.values(), more=''):
     rows = ''.join(f'{letter} = {row}\n' for letter, row in zip(LETTERS, table))
     return f'version = {version}\nk = {k}\nfreeze = 150\nobjective = "{objective}"\n{more}\n[table]\n{rows}'
 

@@ -1,4 +1,9 @@
 """Hostile files of 16 MiB: what is in each, the command that reads it, and how it must end."""
+import sys
+from pathlib import Path
+
+sys.path.append(str(Path(__file__).resolve().parents[1]))
+from draw import LETTERS
 
 SIZE = 16 * 2 ** 20
 DEEP = 100_000
@@ -14,7 +19,7 @@ freeze = 0
 objective = "makespan"
 
 [table]
-''' + b''.join(letter + b' = [60, 60, 60, 60, 60, 60]\n' for letter in (b'A', b'B', b'C', b'D', b'E', b'F'))
+''' + ''.join(f'{letter} = {[60] * len(LETTERS)}\n' for letter in LETTERS).encode()
 
 
 def filled(begin, part, end=b''):

@@ -35,7 +35,8 @@ class Bank:
 
     def __init__(self, field, flights):
         self.shift, self.is_delay = field["k"], field["objective"] == "delay"
-        self.table = field["table"]
+        letters = sorted(field["table"])
+        self.table = {leader: dict(zip(letters, row)) for leader, row in field["table"].items()}
         self.closures = [(it["from"], it["to"]) for it in field.get("closures", [])]
         self.horizon = field["clock"] + field["freeze"] if "clock" in field else 0
         frozen = {it["callsign"]: it["second"] for it in field.get("frozen", [])}
@@ -58,7 +59,7 @@ class Bank:
         return flight["weight"] * max(0, second - flight["estimate"]) if self.is_delay else 0
 
     def separation(self, leader, follower):
-        return self.table[leader["category"]]["ABCDEF".index(follower["category"])]
+        return self.table[leader["category"]][follower["category"]]
 
     def first_open(self, flight, second):
         """The first second at or after this one at which the flight may land, or None."""

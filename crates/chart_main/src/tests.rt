@@ -2,9 +2,7 @@ use crate::running::run;
 use cps_outside::{MemoryFolder, MemorySink};
 use std::alloc::{AllocError, Global};
 use std::test::Fail;
-
-const TABLE: &str =
-    "[table]\nA = [90, 110, 120, 130, 140, 180]\nB = [60, 90, 100, 110, 120, 160]\nC = [60, 60, 60, 60, 100, 140]\nD = [60, 60, 60, 60, 60, 120]\nE = [60, 60, 60, 60, 60, 100]\nF = [60, 60, 60, 60, 60, 60]\n";
+use wake_table::SAMPLE_TEXT;
 
 const HEADER: &str = "callsign,category,eta,weight,windows,after\n";
 
@@ -108,7 +106,7 @@ const DRAWINGS: [Drawing; 8] = [
     },
     Drawing {
         head: PLAIN,
-        flights: "A1,G,1000,1,1000-2000,\n",
+        flights: "A1,AF,1000,1,1000-2000,\n",
         plan: "",
         status: 3,
         pieces: &[],
@@ -154,7 +152,7 @@ fn files(
     plan: &str,
 ) -> Result<Vec<(String, Vec<u8>)>, AllocError> {
     let mut files = Vec::new(alloc);
-    files.push(file(alloc, "aerodrome", &[head, TABLE])?)?;
+    files.push(file(alloc, "aerodrome", &[head, SAMPLE_TEXT])?)?;
     files.push(file(alloc, "flights", &[HEADER, flights])?)?;
     files.push(file(alloc, "plan", &[plan])?)?;
     Ok(files)

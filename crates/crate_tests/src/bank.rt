@@ -12,7 +12,7 @@ use landing_windows::{Closures, OpenTimes, WindowSet};
 use precedence::Pairs;
 use std::alloc::Global;
 use std::test::Fail;
-use wake_table::{Category, PairTable};
+use wake_table::{CATEGORY_COUNT, Category, PairTable};
 
 /// Flights of weight 1 for a planning with k places of shift, in the order of their estimates.
 #[derive(Drop)]
@@ -119,7 +119,7 @@ impl Bank {
         if first as usize > n || next < 1 || next as usize > n {
             return Err(Fail::new("not a pair of ranks"));
         }
-        let table = PairTable::new([[60; 6]; 6])?;
+        let table = PairTable::new([[60; CATEGORY_COUNT]; CATEGORY_COUNT])?;
         let head = Head {
             table,
             k: self.k,

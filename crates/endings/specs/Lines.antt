@@ -4,8 +4,7 @@
 use Rattle.std.specs.Prelude.{⊤, ◌≡◌, ◌⊎◌, ℕ, List, [], ◌∷◌, ◌++◌, codes, decimal}
 use Rattle.cps_outside.specs.Causes.{Rose}
 use Rattle.cps_outside.specs.SinkState.{SinkState, Grows, GrowsByPart, LacksRoom}
-use Rattle.wake_table.specs.Letters.{letter}
-use Rattle.wake_table.specs.declared.category.Category.{Category}
+use Rattle.wake_table.specs.Letters.{letter_text}
 use Rattle.wake_table.specs.declared.table.TableFault.{TableFault}
 use Rattle.wake_table.specs.declared.table.TableFault.TheVariants as table
 use Rattle.cps_base.specs.declared.number.NumberFault.{NumberFault}
@@ -83,9 +82,6 @@ abbrev pub numbered_line : List ℕ → ℕ → List ℕ
 numbered_line words n = line_text (words ∷ decimal n ∷ codes "\n" ∷ [])
 
 -- ---- the aerodrome file
-
-abbrev pub letter_text : Category → List ℕ
-letter_text c = letter c ∷ []
 
 -- the key's name, and then its letter or the number of its closure or entry
 abbrev pub key_name : Key → List ℕ

@@ -1,7 +1,7 @@
 // The lines for an aerodrome file that does not read as one.
 ghost use Rattle.std.specs.Prelude.{◌≡◌};
 ghost use Rattle.cps_outside.specs.SinkState.{Writes};
-ghost use Rattle.endings.specs.Lines.{letter_text, key_name, key_index, key_line, unknown_line, table_line, closure_line, aerodrome_line};
+ghost use Rattle.endings.specs.Lines.{key_name, key_index, key_line, unknown_line, table_line, closure_line, aerodrome_line};
 ghost use Rattle.endings.specs.Pieces.{closure_word};
 
 use crate::lines::{put_all, say_between, say_number};
@@ -9,20 +9,7 @@ use aerodrome_file::{AeroFault, Key, KeyText, Part};
 use cps_outside::{Sink, WriteFailed};
 use itoa::Buffer;
 use landing_windows::ClosureFault;
-use wake_table::{Category, TableFault};
-
-fn letter(category: Category) -> &'static [u8]
-    ensures { result.now ≡ letter_text category }
-{
-    match category {
-        Category::A => b"A",
-        Category::B => b"B",
-        Category::C => b"C",
-        Category::D => b"D",
-        Category::E => b"E",
-        Category::F => b"F",
-    }
-}
+use wake_table::TableFault;
 
 fn name(key: &Key) -> &'static [u8]
     ensures { result.now ≡ key_name key.now }
@@ -52,7 +39,7 @@ fn index<'a>(key: &Key, buffer: &'a mut Buffer) -> &'a [u8]
     ensures { result.now ≡ key_index key.now }
 {
     match key {
-        Key::Row(leader) => letter(*leader),
+        Key::Row(leader) => leader.letter_text().as_bytes(),
         Key::From(i) => buffer.format(*i).as_bytes(),
         Key::To(i) => buffer.format(*i).as_bytes(),
         Key::FrozenCallsign(i) => buffer.format(*i).as_bytes(),
@@ -111,9 +98,9 @@ fn say_table<E: Sink>(err: &mut E, fault: &TableFault) -> Result<(), WriteFailed
             err,
             &[
                 b"cps: aerodrome: table range ",
-                letter(*leader),
+                leader.letter_text().as_bytes(),
                 b" ",
-                letter(*follower),
+                follower.letter_text().as_bytes(),
                 b"\n",
             ],
         ),
@@ -121,11 +108,11 @@ fn say_table<E: Sink>(err: &mut E, fault: &TableFault) -> Result<(), WriteFailed
             err,
             &[
                 b"cps: aerodrome: table triangle ",
-                letter(*a),
+                a.letter_text().as_bytes(),
                 b" ",
-                letter(*b),
+                b.letter_text().as_bytes(),
                 b" ",
-                letter(*c),
+                c.letter_text().as_bytes(),
                 b"\n",
             ],
         ),

@@ -2,21 +2,13 @@
 use Rattle.std.specs.Prelude.{ℕ, ◌∷◌, [], List, None, Some, false, true, codes, map}
 use Rattle.wake_table.specs.declared.category.Category.{Category}
 use Rattle.wake_table.specs.declared.category.Category.TheVariants.{A, B, D, E, F}
+use Rattle.wake_table.specs.Table.{sample_table}
 use Rattle.landing_rules.specs.declared.objective.Objective.{Objective}
 use Rattle.landing_rules.specs.declared.objective.Objective.TheVariants.{Makespan, Delay}
 use Rattle.landing_rules.specs.Flights.{Span, Flight, Aerodrome, Situation}
 use Rattle.landing_rules.specs.Events.{newcomer, situation_after, Clock, opening_situation}
 use Rattle.landing_rules.specs.Text.{ShownLanding}
 use Rattle.landing_rules.specs.Audit.{Block}
-
-abbrev pub sample_table : List (List ℕ)
-sample_table =
-    (90 ∷ 110 ∷ 120 ∷ 130 ∷ 140 ∷ 180 ∷ []) ∷
-    (60 ∷ 90 ∷ 100 ∷ 110 ∷ 120 ∷ 160 ∷ []) ∷
-    (60 ∷ 60 ∷ 60 ∷ 60 ∷ 100 ∷ 140 ∷ []) ∷
-    (60 ∷ 60 ∷ 60 ∷ 60 ∷ 60 ∷ 120 ∷ []) ∷
-    (60 ∷ 60 ∷ 60 ∷ 60 ∷ 60 ∷ 100 ∷ []) ∷
-    (60 ∷ 60 ∷ 60 ∷ 60 ∷ 60 ∷ 60 ∷ []) ∷ []
 
 abbrev pub sample : ℕ → Objective → Aerodrome
 sample k objective = record { k = k; freeze = 150; objective = objective; table = sample_table; carry = false }

@@ -2,7 +2,7 @@
 use Rattle.std.specs.Prelude.{ℕ, zero, suc, List, [], ◌∷◌, ◌+◌, ◌/◌, ◌%◌, get_or}
 use Rattle.wake_table.specs.declared.category.Category.{Category}
 use Rattle.wake_table.specs.declared.category.Category.TheVariants.{A}
-use Rattle.wake_table.specs.Letters.{letters}
+use Rattle.wake_table.specs.Letters.{letters, category_count}
 use Rattle.arrivals.specs.declared.flight.Flight.{Flight}
 use Rattle.traffic_gen.specs.Draws.{next, drawn}
 
@@ -27,7 +27,7 @@ after_three x = next (next (next x))
 unfoldable pub flight : ℕ → ℕ → ℕ → Flight
 flight number before x = record {
   callsign = callsign number;
-  category = category_at (drawn 6 (next (next x)));
+  category = category_at (drawn category_count (next (next x)));
   eta = before + 60 + drawn 60 (next x);
   weight = 1 + drawn 5 (next (next (next x)));
   windows = window_from (before + 60 + drawn 60 (next x));

@@ -1,18 +1,8 @@
--- The sample table of separations, and the aerodrome of a trial.
-use Rattle.std.specs.Prelude.{ℕ, List, [], ◌∷◌, None, false}
+-- The aerodrome of a trial.
+use Rattle.std.specs.Prelude.{ℕ, [], None, false}
+use Rattle.wake_table.specs.Table.{sample_table}
 use Rattle.landing_rules.specs.declared.objective.Objective.TheVariants.{Makespan}
 use Rattle.arrivals.specs.declared.aerodrome.Aerodrome.{Aerodrome}
-
--- for each leader in letter order, the seconds of the followers A to F
-abbrev pub sample_table : List (List ℕ)
-sample_table =
-    (90 ∷ 110 ∷ 120 ∷ 130 ∷ 140 ∷ 180 ∷ [])
-    ∷ (60 ∷ 90 ∷ 100 ∷ 110 ∷ 120 ∷ 160 ∷ [])
-    ∷ (60 ∷ 60 ∷ 60 ∷ 60 ∷ 100 ∷ 140 ∷ [])
-    ∷ (60 ∷ 60 ∷ 60 ∷ 60 ∷ 60 ∷ 120 ∷ [])
-    ∷ (60 ∷ 60 ∷ 60 ∷ 60 ∷ 60 ∷ 100 ∷ [])
-    ∷ (60 ∷ 60 ∷ 60 ∷ 60 ∷ 60 ∷ 60 ∷ [])
-    ∷ []
 
 -- nothing is frozen ahead of the clock, the last landing is made least, the runway has no closure, and the day begins
 -- with it

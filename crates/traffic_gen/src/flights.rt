@@ -1,6 +1,7 @@
 // The flights that a state makes.
 ghost use Rattle.std.specs.Prelude.{◌≡◌, ◌+◌, ◌<◌, ◌≤◌, IfOk};
 ghost use Rattle.cps_base.specs.Limits.{most_waiting};
+ghost use Rattle.wake_table.specs.Letters.{category_count};
 ghost use Rattle.traffic_gen.specs.Draws.{next, drawn};
 ghost use Rattle.traffic_gen.specs.Flights.{callsign, category_at, window_from, flight, flights_from};
 
@@ -9,7 +10,7 @@ use arrivals::{After, Flight};
 use cps_base::Callsign;
 use landing_windows::WindowSet;
 use std::alloc::{AllocError, Global};
-use wake_table::{CATEGORIES, Category};
+use wake_table::{CATEGORIES, CATEGORY_COUNT, Category};
 
 // `T` and the number in three digits.
 #[tactic(auto, unfolding(crate::specs::Flights::callsign))]
@@ -31,7 +32,7 @@ fn callsign(number: u8) -> Callsign
 // The category at this place in letter order.
 #[tactic(auto, unfolding(crate::specs::Flights::category_at))]
 fn category_at(place: u64) -> Category
-    requires { place < 6 }
+    requires { place < category_count }
     ensures { result ≡ category_at place }
 {
     CATEGORIES[place as usize]
@@ -64,7 +65,7 @@ fn flight(number: u8, before: u32, state: u64) -> Flight
     let eta = before + 60 + drawn(60, spaced) as u32;
     Flight {
         callsign,
-        category: category_at(drawn(6, lettered)),
+        category: category_at(drawn(CATEGORY_COUNT as u64, lettered)),
         eta,
         weight: 1 + drawn(5, weighed) as u32,
         windows: window_from(eta),

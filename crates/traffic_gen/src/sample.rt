@@ -2,7 +2,8 @@
 ghost use Rattle.std.specs.Prelude.{◌≡◌, ◌≤◌};
 ghost use Rattle.cps_base.specs.Limits.{greatest_k};
 ghost use Rattle.arrivals.specs.Aerodromes.{IsInRange};
-ghost use Rattle.traffic_gen.specs.Sample.{sample_table, aerodrome_with};
+ghost use Rattle.wake_table.specs.Table.{sample_table};
+ghost use Rattle.traffic_gen.specs.Sample.{aerodrome_with};
 
 use arrivals::{Aerodrome, FrozenList, PassedList};
 use landing_rules::Objective;

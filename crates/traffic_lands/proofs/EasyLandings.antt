@@ -6,10 +6,10 @@ use Rattle.std.specs.List.{list_any}
 use Rattle.std.specs.Ordering.{is_lt}
 use Rattle.std.proofs.lemmas.Bool.{le-leb, lt-ltb, le-ltb, ne_eqb}
 use Rattle.std.proofs.lemmas.Cmp.{tied_itself}
+use Rattle.std.proofs.lemmas.Grind.{common_steps}
 use Rattle.std.proofs.lemmas.List.Sums.{sum_by-cons}
 use Rattle.wake_table.specs.declared.category.Category.{Category}
-use Rattle.wake_table.specs.declared.category.Category.TheVariants.{A, B, C, D, E, F}
-use Rattle.wake_table.specs.Table.{separation}
+use Rattle.wake_table.specs.Table.{separation, sample_table}
 use Rattle.landing_rules.specs.Flights.{Flight, Landing, Situation, horizon}
 use Rattle.landing_rules.specs.Rules.{ArePairSeparated, IsFrozenKept, IsPairInPrecedence, IsShiftKept, KeepsRules}
 use Rattle.landing_rules.specs.Rules.{arrival_cmp, is_open, last_second, place, rank_among, waits}
@@ -18,23 +18,11 @@ use Rattle.landing_rules.specs.shared.Counting.{Member}
 use Rattle.landing_rules.specs.shared.Members.{all_from}
 use Rattle.landing_rules.specs.shared.OneList.{AscendBy}
 use Rattle.traffic_gen.specs.Flights.{window_from}
-use Rattle.traffic_gen.specs.Sample.{sample_table}
 
 -- no separation of the sample table is greater
 pub few_apart : (a b : Category) → separation sample_table a b ≤ 180
 unfolding separation
-few_apart A A = omega arith
-few_apart A b = omega arith
-few_apart B A = omega arith
-few_apart B b = omega arith
-few_apart C A = omega arith
-few_apart C b = omega arith
-few_apart D A = omega arith
-few_apart D b = omega arith
-few_apart E A = omega arith
-few_apart E b = omega arith
-few_apart F A = omega arith
-few_apart F b = omega arith
+few_apart a b = grind (arith, common_steps)
 
 -- a flight that waits, was passed by none and lists none, within its one window
 pub record IsEasy (f : Landing) : Type 0 where

@@ -1,6 +1,6 @@
 -- What a table of separations is, and the first fault of rows that are none.
-use Rattle.std.specs.Prelude.{ℕ, List, [], ◌∷◌, Bool, ◌||◌, ◌+◌, ◌≤◌, nat_lt, get_or, slice_index, map, find, Option, Some}
-use Rattle.std.specs.Prelude.{None, option_map, Result, Ok, Err}
+use Rattle.std.specs.Prelude.{ℕ, List, [], ◌∷◌, Bool, ◌||◌, ◌+◌, ◌≤◌, nat_lt, get_or, slice_index, map, find}
+use Rattle.std.specs.Prelude.{Option, Some, None, option_map, Result, Ok, Err}
 use Rattle.std.specs.List.{flat_map}
 use Rattle.std.specs.Option.{option_or}
 use Rattle.wake_table.specs.declared.category.Category.{Category}

@@ -5,4 +5,4 @@ mod category;
 mod table;
 
 pub use category::{CATEGORIES, CATEGORY_COUNT, Category};
-pub use table::{GREATEST_SEPARATION, PairTable, Row, Rows, SAMPLE, TableFault};
+pub use table::{GREATEST_SEPARATION, PairTable, Row, Rows, SAMPLE, SAMPLE_TEXT, TableFault};

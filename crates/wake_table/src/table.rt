@@ -25,6 +25,16 @@ pub const SAMPLE: Rows = [
     [60, 60, 60, 60, 60, 60],
 ];
 
+/// The same table as an aerodrome file has it.
+pub const SAMPLE_TEXT: &str = "[table]
+A = [90, 110, 120, 130, 140, 180]
+B = [60, 90, 100, 110, 120, 160]
+C = [60, 60, 60, 60, 100, 140]
+D = [60, 60, 60, 60, 60, 120]
+E = [60, 60, 60, 60, 60, 100]
+F = [60, 60, 60, 60, 60, 60]
+";
+
 /// Why rows of seconds are no table: the first fault, in letter order.
 #[derive(Clone, Copy, Debug, PartialEq, Eq)]
 pub enum TableFault {

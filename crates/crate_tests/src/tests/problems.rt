@@ -9,12 +9,12 @@ use landing_windows::{Closures, OpenTimes, WindowSet};
 use precedence::Pairs;
 use std::alloc::{AllocError, Global};
 use std::test::Fail;
-use wake_table::{Category, PairTable};
+use wake_table::{CATEGORY_COUNT, Category, PairTable};
 
 fn problem_of_one(alloc: Global) -> Result<Problem, Fail>
     ensures { IfOk result (λ problem. length problem.flights ≡ 1) }
 {
-    let table = PairTable::new([[90; 6]; 6])?;
+    let table = PairTable::new([[90; CATEGORY_COUNT]; CATEGORY_COUNT])?;
     let windows = WindowSet::new(&[(1000, 1200)])?;
     let callsign = Callsign::read(b"AB1").ok_or("not a callsign")?;
     let times = OpenTimes::of(alloc, &windows, &Closures::new())?;

@@ -1,11 +1,13 @@
 ghost use Rattle.std.specs.Prelude.{◌<◌};
+ghost use Rattle.wake_table.specs.Letters.{category_count};
 
 use super::assert_send_sync;
 use wake_table::{Category, PairTable, SAMPLE, TableFault};
 
 // The fault of the sample table with two entries changed, each given by leader, follower and seconds.
 fn fault_with(first: (usize, usize, u32), second: (usize, usize, u32)) -> Option<TableFault>
-    requires { (first.0 < 6) × (first.1 < 6) × (second.0 < 6) × (second.1 < 6) }
+    requires first { (first.0 < category_count) × (first.1 < category_count) }
+    requires second { (second.0 < category_count) × (second.1 < category_count) }
 {
     let mut rows = SAMPLE;
     rows[first.0][first.1] = first.2;

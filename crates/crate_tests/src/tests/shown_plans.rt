@@ -10,19 +10,12 @@ use replan::AnyKept;
 use sequencer::Sequencer;
 use std::alloc::Global;
 use std::test::Fail;
+use wake_table::{PairTable, SAMPLE, SAMPLE_TEXT};
 
-const AERODROME: &str = "version = 1
+const HEAD: &str = "version = 1
 k = 1
 freeze = 150
 objective = \"makespan\"
-
-[table]
-A = [90, 110, 120, 130, 140, 180]
-B = [60, 90, 100, 110, 120, 160]
-C = [60, 60, 60, 60, 100, 140]
-D = [60, 60, 60, 60, 60, 120]
-E = [60, 60, 60, 60, 60, 100]
-F = [60, 60, 60, 60, 60, 60]
 ";
 
 const FLIGHTS: &str = "callsign,category,eta,weight,windows,after
@@ -48,7 +41,10 @@ fn findings(alloc: Global, sequencer: &Sequencer<AnyKept>) -> Result<usize, Fail
 #[test]
 fn nothing_is_found_in_the_plans_that_are_shown(rt: HostRuntime) -> Result<(), Fail> {
     let alloc = rt.alloc();
-    let aerodrome = read_aerodrome(alloc, AERODROME.as_bytes())?;
+    let mut text = Vec::from_slice(alloc, HEAD.as_bytes())?;
+    text.extend_from_slice(SAMPLE_TEXT.as_bytes())?;
+    let aerodrome = read_aerodrome(alloc, text.as_slice())?;
+    assert!(rt; PairTable::new(SAMPLE) == Ok(aerodrome.table));
     let flights = read_flights(alloc, FLIGHTS.as_bytes())?;
     let events = read_events(alloc, EVENTS.as_bytes())?;
     let planner = AnyKept::fresh(aerodrome.k);

@@ -4,17 +4,8 @@ use cps_outside::Gate;
 use std::alloc::{AllocError, Global};
 use std::test::Fail;
 use std::thread::Threads;
+use wake_table::SAMPLE_TEXT;
 use worked_runs::run_in_memory;
-
-const TABLE: &str = "
-[table]
-A = [90, 110, 120, 130, 140, 180]
-B = [60, 90, 100, 110, 120, 160]
-C = [60, 60, 60, 60, 100, 140]
-D = [60, 60, 60, 60, 60, 120]
-E = [60, 60, 60, 60, 60, 100]
-F = [60, 60, 60, 60, 60, 60]
-";
 
 const FLIGHTS: &str = "callsign,category,eta,weight,windows,after
 A1,A,1000,1,1000-2000,
@@ -61,7 +52,7 @@ fn three(
         "version = 1\nk = 1\nfreeze = 150\nobjective = \"",
         objective,
         "\"\n",
-        TABLE,
+        SAMPLE_TEXT,
     ];
     let mut files = Vec::new(alloc);
     files.push(file(alloc, "aerodrome", &head)?)?;

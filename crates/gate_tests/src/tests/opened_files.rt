@@ -3,23 +3,16 @@ ghost use Rattle.std.specs.Prelude.{Some, None, true, if◌then◌else◌, bytes
 
 use cps_outside::{FreeGate, Opener};
 use cps_top::run_over;
-use std::alloc::Global;
+use std::alloc::{AllocError, Global};
 use std::io;
 use std::io::{Cursor, ErrorKind};
 use std::test::Fail;
+use wake_table::SAMPLE_TEXT;
 
-const AERODROME: &str = "version = 1
+const HEAD: &str = "version = 1
 k = 0
 freeze = 150
 objective = \"makespan\"
-
-[table]
-A = [90, 110, 120, 130, 140, 180]
-B = [60, 90, 100, 110, 120, 160]
-C = [60, 60, 60, 60, 100, 140]
-D = [60, 60, 60, 60, 60, 120]
-E = [60, 60, 60, 60, 60, 100]
-F = [60, 60, 60, 60, 60, 60]
 ";
 
 const FLIGHTS: &str = "callsign,category,eta,weight,windows,after
@@ -64,6 +57,12 @@ impl Opener for Desk {
     }
 }
 
+fn aerodrome(alloc: Global) -> Result<Vec<u8>, AllocError> {
+    let mut text = Vec::from_slice(alloc, HEAD.as_bytes())?;
+    text.extend_from_slice(SAMPLE_TEXT.as_bytes())?;
+    Ok(text)
+}
+
 // The status, the output and the standard error of `plan` over two words.
 const RUNS: [(&str, &str, u8, &str, &str); 3] = [
     ("aerodrome", "flights", 0, PLAN, ""),
@@ -81,7 +80,7 @@ fn a_run_over_opened_files_answers_for_their_bytes(rt: HostRuntime) -> Result<()
         }
         let desk = Desk {
             alloc,
-            aerodrome: Vec::from_slice(alloc, AERODROME.as_bytes())?,
+            aerodrome: aerodrome(alloc)?,
             flights: Vec::from_slice(alloc, FLIGHTS.as_bytes())?,
             asked: Vec::new(alloc),
         };

@@ -10,19 +10,12 @@ use event_log::read_events;
 use flight_file::read_flights;
 use std::alloc::Global;
 use std::test::Fail;
+use wake_table::SAMPLE_TEXT;
 
-const AERODROME: &str = "version = 3
+const HEAD: &str = "version = 3
 k = 1
 freeze = 150
 objective = \"delay\"
-
-[table]
-A = [90, 110, 120, 130, 140, 180]
-B = [60, 90, 100, 110, 120, 160]
-C = [60, 60, 60, 60, 100, 140]
-D = [60, 60, 60, 60, 60, 120]
-E = [60, 60, 60, 60, 60, 100]
-F = [60, 60, 60, 60, 60, 60]
 ";
 
 const FLIGHTS: &str = "callsign,category,eta,weight,windows,after
@@ -44,7 +37,9 @@ reopen,,,,,1500-1600,
 pub(super) fn aerodrome(alloc: Global) -> Result<Aerodrome, Fail>
     ensures { IfOk result IsInRange }
 {
-    Ok(read_aerodrome(alloc, AERODROME.as_bytes())?)
+    let mut text = Vec::from_slice(alloc, HEAD.as_bytes())?;
+    text.extend_from_slice(SAMPLE_TEXT.as_bytes())?;
+    Ok(read_aerodrome(alloc, text.as_slice())?)
 }
 
 /// The flights.
