@@ -30,8 +30,7 @@ module _ {X : Type 0} (passes : X → Bool) (finding : X → Finding) (found : F
   listed_breaks (y ∷ xs) c = go (passes y) refl (listed_breaks xs) c
     where
       go : (b : Bool) → passes y ≡ b → (Contains (for_failing passes finding xs) found → Breaks passes finding xs found)
-          →
-          Contains (cond b (for_failing passes finding xs) (finding y ∷ for_failing passes finding xs)) found
+          → Contains (cond b (for_failing passes finding xs) (finding y ∷ for_failing passes finding xs)) found
           → Breaks passes finding (y ∷ xs) found
       go true p below c = wider y xs (below c)
       go false p below c = elim (split (finding y) found (for_failing passes finding xs) c) [
@@ -101,8 +100,7 @@ module _ {X : Type 0} (pass : X → X → Bool) (finding : X → X → Finding) 
               order = omega arith;
               first = y;
               second = b.element;
-              first_there =
-                  refl;
+              first_there = refl;
               second_there = p.1;
               fails = b.fails;
               gives = b.gives;
@@ -120,9 +118,8 @@ module _ {X : Type 0} (pass : X → X → Bool) (finding : X → X → Finding) 
       (breaks_at (pass y) (finding y) found xs z (at_place xs z j b) (ap (λ w. pass w z) same ∙ f)
       (ap (λ w. finding w z) same ∙ g))
   together_at (y ∷ xs) (suc i) zero x z lt a b f g = absurd (omega arith)
-  together_at (y ∷ xs) (suc i) (suc j) x z lt a b f g =
-      Contains-append_right (for_failing (pass y) (finding y) xs) (for_failing_pairs pass finding xs) found
-      (together_at xs i j x z (omega arith) a b f g)
+  together_at (y ∷ xs) (suc i) (suc j) x z lt a b f g = Contains-append_right (for_failing (pass y) (finding y) xs)
+      (for_failing_pairs pass finding xs) found (together_at xs i j x z (omega arith) a b f g)
 
 pub each_pair : (X : Type 0) → EachPairLaw X
 each_pair X pass finding xs found = (

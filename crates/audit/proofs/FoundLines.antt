@@ -55,11 +55,10 @@ small_found active (l ∷ lines) h =
     go (Some x) s ih = All-cons HasSmallWeight x (lines_found active lines) s ih
 
 -- one more line
-pub found_step : (active : List Active) (lines : List Landing) (i : ℕ) (l : Landing) (done more : List Pair)
-    (whole : List Pair) →
-    i < length lines → l ≡ get_or lines i l → more ≡ cons_option (one_found active (shown_of l)) []
-    → done ++ lines_found active (map shown_of (drop i lines)) ≡ whole →
-    (done ++ more) ++ lines_found active (map shown_of (drop (i + 1) lines)) ≡ whole
+pub found_step : (active : List Active) (lines : List Landing)
+    (i : ℕ) (l : Landing) (done more : List Pair) (whole : List Pair) → i < length lines → l ≡ get_or lines i l
+    → more ≡ cons_option (one_found active (shown_of l)) [] → done ++ lines_found active (map shown_of (drop i lines))
+    ≡ whole → (done ++ more) ++ lines_found active (map shown_of (drop (i + 1) lines)) ≡ whole
 found_step active lines i l done more whole lt same e h =
     let left = λ (ls : List Landing). lines_found active (map shown_of ls) in
     place_step left left lines i l done more whole lt same

@@ -56,11 +56,10 @@ has-insert ks k c = go (list_any (bytes_eq k) ks) refl
 
 -- ---- the lines above, and one more
 
-pub twice_step : (lines : List Landing) (i : ℕ) (l : Landing) (above : List ShownLanding)
-    (done more whole : List Finding) →
-    i < length lines → l ≡ get_or lines i l → more ≡ repeated (has_line above l.callsign) l.callsign
-    → done ++ twice_after above (map shown_of (drop i lines)) ≡ whole →
-    (done ++ more) ++ twice_after (shown_of l ∷ above) (map shown_of (drop (i + 1) lines)) ≡ whole
+pub twice_step : (lines : List Landing) (i : ℕ)
+    (l : Landing) (above : List ShownLanding) (done more whole : List Finding) → i < length lines → l ≡ get_or lines i l
+    → more ≡ repeated (has_line above l.callsign) l.callsign → done ++ twice_after above (map shown_of (drop i lines))
+    ≡ whole → (done ++ more) ++ twice_after (shown_of l ∷ above) (map shown_of (drop (i + 1) lines)) ≡ whole
 twice_step lines i l above done more whole lt same e h =
     let rest = twice_after (shown_of l ∷ above) (map shown_of (drop (i + 1) lines)) in
     place_step (λ ls. twice_after above (map shown_of ls))

@@ -1,4 +1,6 @@
 -- What an accepted certificate means.
+use Rattle.std.proofs.Common.{arith}
+use Rattle.std.proofs.lemmas.Grind.{common_steps}
 use Rattle.std.proofs.Common.{rules, ◌≡◌, ℕ, ◌≤◌, Bool, true, false, cond, List, [], ◌∷◌, Option, Some, None}
 use Rattle.std.proofs.Common.{refl, subst}
 use Rattle.std.specs.Prelude.{◌==◌}
@@ -27,12 +29,10 @@ use Rattle.cert_check.proofs.Bounds.{none_below, none_at_all}
 use Rattle.cert_check.proofs.Sound.{are_its_landings, are_feasible, passed_low}
 
 pair_none : {A : Type 0} (f : ℕ → ℕ → A) (o : Option (ℕ × ℕ)) → with_pair f o ≡ None → o ≡ None
-pair_none f None e = refl
-pair_none f (Some x) e = absurd (cc)
+pair_none x0 x1 x2 = grind (arith, common_steps)
 
 unless_none : {A : Type 0} (b : Bool) (x : A) → cond b (Some x) None ≡ None → b ≡ false
-unless_none true x e = absurd (cc)
-unless_none false x e = refl
+unless_none x0 x1 x2 = grind (arith, common_steps)
 
 -- what the states leave
 record StatesHold (p : Problem) (c : Claim) (ss : List State) : Type 0 where
@@ -79,8 +79,7 @@ infeasible : (p : Problem) (ls : Landings) (ss : List State) → IsWellFormed p
 unfolding failure
 infeasible p ls ss h e t f =
     let b = or_none (claim_reason p claim.Infeasible ls) (state_reason p claim.Infeasible ss)
-    (or_none (flights_reason p claim.Infeasible ls)
-    (option_or (claim_reason p claim.Infeasible ls) (state_reason p claim.Infeasible ss)) e).1 in
+    (or_none _ _ e).1 in
     let s = states_hold p claim.Infeasible ss b.1 in
     go (count p == 0) refl s.final s
   where
@@ -93,17 +92,11 @@ infeasible p ls ss h e t f =
 
 by_optimal : (c : Claim) (o : Option Reason) (v : ℕ) → verdict_by c o ≡ verdict.Optimal v
     → (c ≡ claim.Optimal v) × (o ≡ None)
-by_optimal (claim.Optimal w) None v e = search rules
-by_optimal claim.Infeasible None v e = absurd (cc)
-by_optimal (claim.Optimal w) (Some r) v e = absurd (cc)
-by_optimal claim.Infeasible (Some r) v e = absurd (cc)
+by_optimal x0 x1 x2 x3 = grind (arith, common_steps)
 
 by_infeasible : (c : Claim) (o : Option Reason) → verdict_by c o ≡ verdict.Infeasible
     → (c ≡ claim.Infeasible) × (o ≡ None)
-by_infeasible (claim.Optimal w) None e = absurd (cc)
-by_infeasible claim.Infeasible None e = (refl, refl)
-by_infeasible (claim.Optimal w) (Some r) e = absurd (cc)
-by_infeasible claim.Infeasible (Some r) e = absurd (cc)
+by_infeasible x0 x1 x2 = grind (arith, common_steps)
 
 pub judged_optimal : (p : Problem) (c : Cert) → IsWellFormed p → (v : ℕ) → verdict_of p c ≡ verdict.Optimal v
     → IsShownOptimal p c.landings v

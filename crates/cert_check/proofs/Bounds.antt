@@ -1,5 +1,6 @@
 -- Where the states miss no successor, no feasible schedule is below them, and where none is final, nothing is feasible.
-use Rattle.std.proofs.Common.{rules, ◌≡◌, ℕ, zero, suc, ◌≤◌, inl, inr, true, List, [], ◌∷◌, None, subst, arith}
+use Rattle.std.proofs.lemmas.Grind.{common_steps}
+use Rattle.std.proofs.Common.{rules, ◌≡◌, ℕ, ◌≤◌, inl, inr, true, List, [], ◌∷◌, None, subst, arith}
 use Rattle.landing_rules.specs.Problem.{Problem}
 use Rattle.cps_theory.specs.Separation.{Landing}
 use Rattle.cps_theory.specs.Retiming.{NeverEarlier}
@@ -33,14 +34,12 @@ module _ (p : Problem) where
 
   -- what a landing keeps, a successor keeps
   ready_low : (l u r : ℕ) → ready p l u r ≤ next_from (ranked p) l u r
-  ready_low zero u r = omega arith
-  ready_low (suc l) u r = omega arith
+  ready_low x0 x1 x2 = grind (arith, common_steps)
 
   landed_behind : (xs : List Landing) → Landed opens (next_from (ranked p)) xs → Landed opens (ready p) xs
   landed_behind [] h = tt
   landed_behind (x ∷ xs) h =
-      let a = ready_low (latest_landing xs).0 (latest_landing xs).1 x.0 in
-      (h.0, omega arith, landed_behind xs h.2)
+      let a = ready_low (latest_landing xs).0 (latest_landing xs).1 x.0 in (h.0, omega arith, landed_behind xs h.2)
 
   module _ (well : IsWellFormed p) (ss : List State)
       (from_start : first_missed p ss (start_node p) ((0, 0) ∷ []) ≡ None)
@@ -65,11 +64,9 @@ module _ (p : Problem) where
         let x = feasible_landing_trail (ranked p) (cost_at p) (sound_problem p well) t f in
         subst (λ (q : Pair). v ≤ value_at p q) x.4
         (closed_landings_optimal opens (first_at p) (ready p) (cost_at p) (is_first_open p) ready_later
-        (costs_rise p) (rules_of p) ones lists closed (value_at p) (value_rises p) v
-        (λ w q at l. elim l [
+        (costs_rise p) (rules_of p) ones lists closed (value_at p) (value_rises p) v (λ w q at l. elim l [
           | inl s ↦ absurd (not_start w q some at s)
-          | inr b ↦ final_not_below node_of pairs_of
-              (count p) (value_at p) v ss e w q at b
+          | inr b ↦ final_not_below node_of pairs_of (count p) (value_at p) v ss e w q at b
         ]) x.0 x.1 (landed_behind x.0 x.2) x.3)
 
     pub none_at_all : 1 ≤ count p → element_from (is_final p) 1 ss ≡ None → (t : ℕ → ℕ) → Feasible (ranked p) t → ⊥
@@ -79,6 +76,5 @@ module _ (p : Problem) where
         (costs_rise p) (rules_of p) ones lists closed
         (λ w q at l. elim l [
           | inl s ↦ absurd (not_start w q some at s)
-          | inr b ↦ none_final node_of pairs_of
-              (count p) ss e w q at b
+          | inr b ↦ none_final node_of pairs_of (count p) ss e w q at b
         ]) x.0 x.1 (landed_behind x.0 x.2) x.3

@@ -1,5 +1,5 @@
 -- Digits as the bits of a number, one more at the front.
-use Rattle.std.proofs.Common.{rules, ◌≡◌, ℕ, zero, suc, ◌+◌, ◌*◌, ◌≤◌, ◌^◌, Bool, true, false, cond, arith}
+use Rattle.std.proofs.Common.{rules, ◌≡◌, ℕ, zero, suc, ◌+◌, ◌*◌, ◌≤◌, ◌^◌, Bool, cond, arith}
 use Rattle.std.proofs.lemmas.Grind.{common_steps}
 use Rattle.std.specs.Prelude.{◌/◌, ◌%◌, ◌==◌}
 use Rattle.certificate.specs.Patterns.{bits}
@@ -18,12 +18,10 @@ power_small (suc (suc (suc (suc (suc zero))))) h = omega arith
 power_small (suc (suc (suc (suc (suc (suc i)))))) h = absurd (omega arith)
 
 bit : (n : ℕ) (b : Bool) → (2 * n + cond b 1 0) % 2 == 1 ≡ b
-bit n true = search rules
-bit n false = search rules
+bit x0 x1 = grind (arith, common_steps)
 
 half : (n : ℕ) (b : Bool) → (2 * n + cond b 1 0) / 2 ≡ n
-half n true = omega arith
-half n false = omega arith
+half x0 x1 = grind (arith, common_steps)
 
 -- one more digit before those from y on
 pub more_digits : (t : ℕ → Bool) (i y z n : ℕ) (b : Bool) → bits i n ≡ tests_from t z i → z ≡ suc y

@@ -1,5 +1,6 @@
 -- The number of the first element that passes, where the front has number 1.
-use Rattle.std.proofs.Common.{rules, ◌≡◌, ℕ, ◌+◌, ◌<◌, Bool, List, [], ◌∷◌, length, Option, Some, None, refl, ap, ◌∙◌}
+use Rattle.std.proofs.lemmas.Grind.{common_steps}
+use Rattle.std.proofs.Common.{◌≡◌, ℕ, ◌+◌, ◌<◌, Bool, List, [], ◌∷◌, length, Option, None, refl, ap, ◌∙◌}
 use Rattle.std.proofs.Common.{arith}
 use Rattle.std.specs.Prelude.{option_map, position, IfSome}
 use Rattle.std.specs.Option.{MatchOption, IsSomeAnd}
@@ -16,14 +17,10 @@ numbers test (x ∷ xs) i = grind (arith, numbers test xs (i + 1))
 one_more : {Q : ℕ → ℕ → Type 0} (p m : Option ℕ) (end : ℕ) → IfSome p (λ i. i < end)
     → MatchOption p (m ≡ None) (λ i. IsSomeAnd m (Q i)) → ((i n : ℕ) → i < end → Q i n → n ≡ i + 1)
     → m ≡ option_map (λ n. n + 1) p
-one_more None m end b h next = h
-one_more (Some i) None end b h next = absurd h
-one_more (Some i) (Some n) end b h next = search rules
+one_more x0 x1 x2 x3 x4 x5 = grind (arith, common_steps)
 
 pub number_found : {S : Type 0} {Q : ℕ → ℕ → Type 0} (test : S → Bool) (xs : List S) (p m : Option ℕ)
-    → p ≡ position test xs → IfSome p (λ i. i < length xs)
-    → MatchOption p (m ≡ None) (λ i. IsSomeAnd m (Q i)) → ((i n : ℕ) → i < length xs → Q i n → n ≡ i + 1)
-    → m ≡ element_from test 1 xs
-number_found test xs p m e b h next =
-    one_more p m (length xs) b h next ∙ ap (option_map (λ n. n + 1)) (e ∙ position_from-zero test xs)
-    ∙ numbers test xs 0
+    → p ≡ position test xs → IfSome p (λ i. i < length xs) → MatchOption p (m ≡ None) (λ i. IsSomeAnd m (Q i))
+    → ((i n : ℕ) → i < length xs → Q i n → n ≡ i + 1) → m ≡ element_from test 1 xs
+number_found test xs p m e b h next = one_more p m (length xs) b h next
+    ∙ ap (option_map (λ n. n + 1)) (e ∙ position_from-zero test xs) ∙ numbers test xs 0

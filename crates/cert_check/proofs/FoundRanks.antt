@@ -29,9 +29,8 @@ pub found_in_range : {F : Type 0} {g : Mut F (Bor ℕ × Unit {0}) Bool} (test :
     (s u : Range ℕ) (f : F) (r : Option ℕ) → s.end ≡ s.start + m
     → FindsItem nat_range_steps g s f r u → ((x : ℕ) (b : Bool) (q : F) → CalledAt g f x b q → (q ≡ f) × (b ≡ test x))
     → r ≡ first_from test s.start m
-found_in_range test m s u f r e ran calls =
-    by r (first_from_Range s u f r (λ x. test x ≡ true) (λ x. test x ≡ false) ran (λ x q k. sym (calls x true q k).1)
-    (λ x q k. let c = calls x false q k in (c.0, sym c.1)))
+found_in_range test m s u f r e ran calls = by r (first_from_Range s u f r (λ x. test x ≡ true) (λ x. test x ≡ false)
+    ran (λ x q k. sym (calls x true q k).1) (λ x q k. let c = calls x false q k in (c.0, sym c.1)))
   where
     by : (o : Option ℕ) → MatchOption o ((k : ℕ) → s.start ≤ k → k < s.end → test k ≡ false)
         (λ i. (s.start ≤ i) × (i < s.end) × (test i ≡ true) × ((k : ℕ) → s.start ≤ k → k < i → test k ≡ false))
@@ -52,6 +51,5 @@ pub pair_in_range : {F : Type 0} {g : Mut F (ℕ × Unit {0}) (Option (ℕ × �
     (λ y. (i : ℕ) × (i < p.len) × (p.len ≡ i + 1) × IsFirstToGive p g f (Some y) None i))
     → ((x : ℕ) (b : Option (ℕ × ℕ)) (q : F) → Called g f (x, tt) b q → (q ≡ f) × (b ≡ with_number x (find x)))
     → r ≡ first_pair_from find s.start m
-pair_in_range find m s f r e runs calls =
-    first_answer_from_find_map (λ x. with_number x (find x)) f calls r runs
+pair_in_range find m s f r e runs calls = first_answer_from_find_map (λ x. with_number x (find x)) f calls r runs
     (YieldsList-from_range s.start s.end m refl (omega (arith, e))) ∙ ranks_answer find s.start m

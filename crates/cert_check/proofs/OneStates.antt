@@ -27,8 +27,7 @@ module _ (p : Problem) (xs : List ℕ) (same : must_precede xs ≡ must_precede 
     rules = record {
       count = length p.flights;
       most = p.k;
-      back =
-          λ r. p.k - (of_rank no_waiting p.flights r).passed;
+      back = λ r. p.k - (of_rank no_waiting p.flights r).passed;
       before = before;
     };
     is_open = (ranked p).is_open;
@@ -37,9 +36,8 @@ module _ (p : Problem) (xs : List ℕ) (same : must_precede xs ≡ must_precede 
   }
 
   abbrev attains_by : (ℕ → ℕ → Bool) → PatternNode → Pair → Type 0
-  attains_by before w x =
-      Attained (λ r u. (ranked p).is_open r u ≡ true) (next_from (ranked_by before)) (cost_at p)
-      (Legal (ranked_by before).rules) (pattern_node (ranked_by before).rules) w x
+  attains_by before w x = Attained (λ r u. (ranked p).is_open r u ≡ true) (next_from (ranked_by before))
+      (cost_at p) (Legal (ranked_by before).rules) (pattern_node (ranked_by before).rules) w x
 
   there : (w : PatternNode) (x : Pair) → Attains q w x → Attains p w x
   there w x = subst (λ (before : ℕ → ℕ → Bool). attains_by before w x) same
@@ -73,7 +71,5 @@ module _ (p : Problem) (xs : List ℕ) (same : must_precede xs ≡ must_precede 
   }
 
 pub one_states : OneStatesLaw
-one_states s p q ss ts h k wp wq =
-    whole_is_unique q ss ts
-    (states_there q p.pairs (same_order s p q h k) ss
-    (subst (λ (x : Problem). AreWholeStates x ss) (same_but_pairs s p q h k) wp)) wq
+one_states s p q ss ts h k wp wq = whole_is_unique q ss ts (states_there q p.pairs
+    (same_order s p q h k) ss (subst (λ (x : Problem). AreWholeStates x ss) (same_but_pairs s p q h k) wp)) wq

@@ -1,21 +1,20 @@
 -- The verdict on a certificate is one for a situation.
-use Rattle.std.proofs.Common.{rules, ◌≡◌, ℕ, List, [], ◌∷◌, Option, Some, None, Bool, not, ◌&&◌, refl, ap}
-use Rattle.std.proofs.Common.{ap₂, ◌∙◌}
+use Rattle.std.proofs.Common.{arith}
+use Rattle.std.proofs.lemmas.Grind.{common_steps}
+use Rattle.std.proofs.Common.{rules, ◌≡◌, ℕ, List, [], ◌∷◌, Option, Some, None, Bool, not, ◌&&◌}
+use Rattle.std.proofs.Common.{ap₂}
 use Rattle.std.specs.Prelude.{◌==◌, nat_lt, option_map, if◌then◌else◌}
 use Rattle.std.specs.Option.{option_or}
 use Rattle.precedence.specs.Pairs.{must_precede}
 use Rattle.landing_rules.specs.declared.objective.Objective.{Objective}
-use Rattle.landing_rules.specs.declared.objective.Objective.TheVariants.{Makespan, Delay}
 use Rattle.landing_rules.specs.Flights.{Schedule}
-use Rattle.landing_rules.specs.Problem.{Problem, Waiting, list_cost}
+use Rattle.landing_rules.specs.Problem.{Problem, list_cost}
 use Rattle.cps_theory.specs.FirstFound.{first_from, first_pair_from, with_number}
-use Rattle.cps_theory.specs.Labels.{Pair}
 use Rattle.cps_theory.specs.LegalPrefix.{OrderRules}
 use Rattle.cps_theory.specs.Patterns.{pattern_node}
 use Rattle.cps_theory.specs.CertificateClosure as closure
-use Rattle.landing_joint.specs.RankedProblem.{first_at, cost_at, makespan_by, value_by}
+use Rattle.landing_joint.specs.RankedProblem.{first_at, cost_at}
 use Rattle.certificate.specs.declared.certificate.Claim.{Claim}
-use Rattle.certificate.specs.declared.certificate.Claim.TheVariants as claim
 use Rattle.certificate.specs.States.{State}
 use Rattle.certificate.specs.Reading.{Cert}
 use Rattle.cert_check.specs.declared.verdict.Reason.{Reason}
@@ -24,7 +23,7 @@ use Rattle.cert_check.specs.declared.verdict.Reason.TheVariants.{Shape, Successo
 use Rattle.cert_check.specs.Landings.{Landings, count, second, seconds, is_shut, is_early, first_too_close, is_shifted}
 use Rattle.cert_check.specs.Situations.{OneVerdictLaw}
 use Rattle.cert_check.specs.States.{node_of, pairs_of, ready, shape_failure, final_failure}
-use Rattle.cert_check.specs.Verdict.{with_pair, flights_reason, claim_reason, landing_reason, state_reason, failure}
+use Rattle.cert_check.specs.Verdict.{with_pair, claim_reason, landing_reason, state_reason, failure}
 use Rattle.cert_check.specs.Verdict.{verdict_of}
 use Rattle.cps_problem.specs.shared.OneProblem.{same_but_pairs, same_order, with_pairs}
 
@@ -34,21 +33,7 @@ module _ (p : Problem) (xs : List ℕ) (same : must_precede xs ≡ must_precede 
   q = with_pairs p xs
 
   same_cost : (o : Objective) (t : Schedule) → list_cost o q t ≡ list_cost o p t
-  same_cost Makespan [] = refl
-  same_cost Makespan (x ∷ t) = refl
-  same_cost Delay t = refl
-
-  same_makespan : (fs : List Waiting) (t : ℕ) → makespan_by fs q t ≡ makespan_by fs p t
-  same_makespan [] t = refl
-  same_makespan (f ∷ fs) t = refl
-
-  same_value : (o : Objective) (x : Pair) → value_by o q x ≡ value_by o p x
-  same_value Makespan x = search rules
-  same_value Delay x = refl
-
-  same_listed : (c : Claim) (ls : Landings) → flights_reason q c ls ≡ flights_reason p c ls
-  same_listed (claim.Optimal v) ls = refl
-  same_listed claim.Infeasible ls = refl
+  same_cost x0 x1 = grind (arith, common_steps)
 
   -- what the landings break first, by that test and by their objective
   abbrev landing_by : ℕ → Landings → (ℕ → ℕ → Bool) → ℕ → Option Reason
@@ -67,12 +52,10 @@ module _ (p : Problem) (xs : List ℕ) (same : must_precede xs ≡ must_precede 
   same_landings v ls = ap₂ (landing_by v ls) same (same_cost p.objective (seconds p ls))
 
   same_claims : (c : Claim) (ls : Landings) → claim_reason q c ls ≡ claim_reason p c ls
-  same_claims (claim.Optimal v) ls = same_landings v ls
-  same_claims claim.Infeasible ls = refl
+  same_claims x0 x1 = search (rules, same_landings)
 
   same_final : (c : Claim) (ss : List State) → final_failure q c ss ≡ final_failure p c ss
-  same_final (claim.Optimal v) ss = search rules
-  same_final claim.Infeasible ss = refl
+  same_final x0 x1 = grind (arith, common_steps)
 
   -- which states fail first, by these rules
   abbrev state_by : List State → OrderRules → Option ℕ → Option Reason
@@ -97,5 +80,4 @@ module _ (p : Problem) (xs : List ℕ) (same : must_precede xs ≡ must_precede 
   same_verdict c = cc (same_failure c)
 
 pub one_verdict : OneVerdictLaw
-one_verdict s p q c h k = ap (λ (x : Problem). verdict_of x c) (same_but_pairs s p q h k)
-    ∙ same_verdict q p.pairs (same_order s p q h k) c
+one_verdict s p q c h k = search (rules, same_but_pairs, same_verdict, same_order)

@@ -7,8 +7,7 @@ use Rattle.cps_theory.specs.Labels.{Pair, no_worse}
 use Rattle.certificate.specs.States.{rises}
 
 rest_rises : (p : Pair) (ps : List Pair) → rises (p ∷ ps) ≡ true → rises ps ≡ true
-rest_rises p [] h = refl
-rest_rises p (q ∷ ps) h = (and_parts _ _ h).1
+rest_rises x0 x1 x2 = search (rules, and_parts)
 
 -- each later pair is later and cheaper
 behind : (p : Pair) (ps : List Pair) → rises (p ∷ ps) ≡ true → (k : ℕ) (d : Pair) → k < length ps
@@ -30,16 +29,14 @@ seconds_rise (p ∷ ps) h (suc i) zero d le lt = absurd (omega arith)
 seconds_rise (p ∷ ps) h (suc i) (suc j) d le lt = seconds_rise ps (rest_rises p ps h) i j d (omega arith) (omega arith)
 
 and_yes : (a b : Bool) → a ≡ true → a && b ≡ b
-and_yes true b e = refl
-and_yes false b e = absurd cc
+and_yes x0 x1 x2 = cc
 
 -- where all are later, none is no worse
 pub all_later : (ps : List Pair) (q : Pair) → ((k : ℕ) (d : Pair) → k < length ps → leb (get_or ps k d).0 q.0 ≡ false)
     → list_any (λ o. no_worse o q) ps ≡ false
 all_later [] q high = refl
-all_later (p ∷ ps) q high = ap₂ (λ (x y : Bool). x || y)
-    (and_left (leb p.0 q.0) (leb p.1 q.1) (high zero p (omega arith)))
-    (all_later ps q (λ k d lt. high (suc k) d (omega arith)))
+all_later (p ∷ ps) q high = ap₂ (λ (x y : Bool). x || y) (and_left
+    (leb p.0 q.0) (leb p.1 q.1) (high zero p (omega arith))) (all_later ps q (λ k d lt. high (suc k) d (omega arith)))
 
 -- where the first m + 1 are no later and the others are later, the last of the first decides
 pub last_decides : (ps : List Pair) → rises ps ≡ true → (q : Pair) (m : ℕ) → m < length ps

@@ -1,5 +1,5 @@
 -- The landings of a best list in an order of all ranks are shown optimal.
-use Rattle.std.proofs.Common.{rules, ◌≡◌, ◌≢◌, ℕ, zero, suc, ◌<◌, inl, inr, Bool, cond, eqb, List, [], ◌∷◌, length}
+use Rattle.std.proofs.Common.{rules, ◌≡◌, ◌≢◌, ℕ, suc, ◌<◌, inl, inr, Bool, cond, eqb, List, [], ◌∷◌, length}
 use Rattle.std.proofs.Common.{reverse, refl, sym, ap, subst, ◌∙◌, arith}
 use Rattle.std.proofs.lemmas.Grind.{common_steps, same_number_lists}
 use Rattle.std.specs.Prelude.{All, bytes_eq, count_by}
@@ -43,9 +43,7 @@ module _ (p : Problem) (well : IsWellFormed p) where
   -- callsigns tell the ranks apart
   lower_differs : (q r : ℕ) → IsRank (count p) q → IsRank (count p) r → q < r → name q ≢ name r
   unfolding name
-  lower_differs zero r a b lt = omega arith
-  lower_differs (suc i) zero a b lt = absurd (omega arith)
-  lower_differs (suc i) (suc j) a b lt = search rules
+  lower_differs x0 x1 x2 x3 x4 = grind (arith, common_steps)
 
   differ : (q r : ℕ) → IsRank (count p) q → IsRank (count p) r → (q ≡ r → ⊥) → name q ≡ name r → ⊥
   differ q r a b ne e = search (rules, lower_differs)
@@ -69,8 +67,7 @@ module _ (p : Problem) (well : IsWellFormed p) where
 
     once : (r : ℕ) → IsRank (count p) r → count_by (λ l. bytes_eq l.0 (flight p r).callsign) ls ≡ 1
     unfolding ls name
-    once r q =
-        count_by_map (λ l. bytes_eq l.0 (name r)) (λ x. (name x, of_rank 0 t x)) order
+    once r q = count_by_map (λ l. bytes_eq l.0 (name r)) (λ x. (name x, of_rank 0 t x)) order
         ∙ count_by_agree (λ x. bytes_eq (name x) (name r)) (λ x. eqb x r) order (λ x i. same_name x r (is_rank x i) q)
         ∙ sym (sum_by-IsPermutation (λ x. cond (eqb x r) 1 0) order (reverse order) (IsPermutation-reverse order))
         ∙ once_of r (reverse order) distinct (has_rank r q)
@@ -82,9 +79,8 @@ module _ (p : Problem) (well : IsWellFormed p) where
     second_from (x ∷ rs) h r q i = elim (cases_eq x r) [
       | inl e ↦ ap (λ (b : Bool). cond b (of_rank 0 t x) (second_of (landings_in p t rs) (name r)))
           (same_name x r (h x (inl refl)) q ∙ eq-eqb x r e) ∙ ap (of_rank 0 t) e
-      | inr ne ↦ ap (λ (b : Bool). cond b (of_rank 0 t x) (second_of (landings_in p t rs) (name r)))
-          (same_name x r (h x (inl refl)) q ∙ ne_eqb x r ne)
-          ∙ second_from rs (λ y j. h y (inr j)) r q (later x r rs i ne)
+      | inr ne ↦ ap (λ (b : Bool). cond b (of_rank 0 t x) (second_of (landings_in p t rs) (name r))) (same_name x r
+          (h x (inl refl)) q ∙ ne_eqb x r ne) ∙ second_from rs (λ y j. h y (inr j)) r q (later x r rs i ne)
     ]
       where
         later : (x r : ℕ) (rs : List ℕ) → In r (x ∷ rs) → (x ≡ r → ⊥) → In r rs
@@ -95,10 +91,9 @@ module _ (p : Problem) (well : IsWellFormed p) where
     unfolding ls
     seconds_are long =
         let all : length (seconds p ls) ≡ count p = length-map p.flights (λ f. second_of ls f.callsign) in
-        same_number_lists (seconds p ls) t (omega arith) (λ i lt.
-        get_or-map (λ f. second_of ls f.callsign) p.flights i no_waiting 0 (omega arith)
-        ∙ second_from order is_rank (suc i) (omega arith, omega arith)
-        (back (suc i) (has_rank (suc i) (omega arith, omega arith))))
+        same_number_lists (seconds p ls) t (omega arith)
+        (λ i lt. get_or-map (λ f. second_of ls f.callsign) p.flights i no_waiting 0 (omega arith) ∙ second_from
+        order is_rank (suc i) (omega arith, omega arith) (back (suc i) (has_rank (suc i) (omega arith, omega arith))))
 
     pub best_order_shown : IsBestList p t → IsShownOptimal p (landings_in p t order) (list_objective p t)
     unfolding ls
@@ -106,8 +101,7 @@ module _ (p : Problem) (well : IsWellFormed p) where
         let same = seconds_are best.feasible.one_each in
         record {
           landings = record {
-            as_many = length-map order (λ r. ((flight p r).callsign, of_rank 0 t r))
-                ∙ as_many;
+            as_many = length-map order (λ r. ((flight p r).callsign, of_rank 0 t r)) ∙ as_many;
             each_once = λ r one most. once r (one, most);
           };
           best = subst (IsBestList p) (sym same) best;

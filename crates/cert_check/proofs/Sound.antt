@@ -1,13 +1,14 @@
 -- What the tests of the landings and of the states say where none of them finds anything.
+use Rattle.std.proofs.lemmas.Grind.{common_steps}
 use Rattle.std.proofs.Common.{rules, ◌≡◌, ℕ, zero, suc, ◌+◌, ◌<◌, ◌≤◌, inl, inr, Bool, true, false, not, ◌&&◌, ltb}
-use Rattle.std.proofs.Common.{length, Option, Some, None, refl, ap, ◌∙◌, arith}
+use Rattle.std.proofs.Common.{length, Option, None, ap, ◌∙◌, arith}
 use Rattle.std.specs.Prelude.{◌==◌, bytes_eq, count_by, option_map, is_some}
 use Rattle.std.proofs.lemmas.List.{length-map}
 use Rattle.std.proofs.lemmas.Bool.{cases_lt, cases_eq, ltb-false, ltb-true, eqb-true, or_parts, not-false}
 use Rattle.landing_rules.specs.Problem.{Problem}
 use Rattle.cps_theory.specs.RankLists.{IsRank, of_rank}
 use Rattle.cps_theory.specs.Feasible.{Feasible, SoundProblem}
-use Rattle.cps_theory.specs.FirstFound.{first_from, first_pair_from, with_number}
+use Rattle.cps_theory.specs.FirstFound.{first_from, first_pair_from}
 use Rattle.cps_theory.specs.laws.FirstFound.{from_none, or_none, with_number_none}
 use Rattle.landing_joint.specs.RankedProblem.{ranked}
 use Rattle.landing_joint.specs.shared.RankedLists.{place_is, sound_ranked}
@@ -21,26 +22,22 @@ use Rattle.cert_check.specs.Meaning.{AreItsLandings}
 -- ---- tests
 
 and_false : (a b : Bool) → a && b ≡ false → a ≡ true → b ≡ false
-and_false true b e p = e
-and_false false b e p = absurd (cc)
+and_false x0 x1 x2 x3 = cc
 
 pub map_none : {A B : Type 0} (f : A → B) (o : Option A) → option_map f o ≡ None → o ≡ None
-map_none f (Some x) e = absurd (cc)
-map_none f None e = refl
+map_none x0 x1 x2 = grind (arith, common_steps)
 
 none_left : {A : Type 0} (o : Option A) → is_some o ≡ false → o ≡ None
-none_left (Some x) e = absurd (cc)
-none_left None e = refl
+none_left x0 x1 = grind (arith, common_steps)
 
 pair_none : (find : ℕ → Option ℕ) (x m : ℕ) → first_pair_from find x m ≡ None → (y : ℕ) → x ≤ y
     → y < x + m → find y ≡ None
 pair_none find x zero e y le lt = absurd (omega arith)
 pair_none find x (suc m) e y le lt =
-    let o = or_none (with_number x (find x)) (first_pair_from find (suc x) m) e in
+    let o = or_none _ _ e in
     elim (cases_eq y x) [
-      | inl s ↦ ap find s ∙ with_number_none x (find x) o.0
-      | inr ne ↦
-          pair_none find (suc x) m o.1 y (omega arith) (omega arith)
+      | inl s ↦ ap find s ∙ with_number_none x _ o.0
+      | inr ne ↦ pair_none find _ m o.1 y (omega arith) (omega arith)
     ]
 
 module _ (p : Problem) (ls : Landings) where
@@ -110,8 +107,7 @@ module _ (p : Problem) (ls : Landings) where
 
 module _ (p : Problem) where
   pub passed_low : IsWellFormed p → (r : ℕ) → IsRank (count p) r → (flight p r).passed ≤ p.k
-  passed_low h zero q = omega arith
-  passed_low h (suc i) q = omega arith
+  passed_low x0 x1 x2 = grind (arith, common_steps)
 
   pub sound_problem : IsWellFormed p → SoundProblem (ranked p)
   sound_problem h = search (rules, sound_ranked)

@@ -49,8 +49,7 @@ module _ (p : Problem) (well : IsWellFormed p) where
     where
       go : (b : Bool) → eqb s.stage (count p) ≡ b → b && list_any (λ q. ltb (value_at p q) v) s.pairs ≡ false
       go false e = refl
-      go true e =
-          any_not (λ q. ltb (value_at p q) v) s.pairs (λ q i.
+      go true e = any_not (λ q. ltb (value_at p q) v) s.pairs (λ q i.
           let u = list_from (node_of s) q ((h.undominated q).0 i).attained (eqb-true s.stage (count p) e) in
           let least = shown.best.least u.0 u.1 in
           let is = shown.value in
@@ -64,8 +63,7 @@ module _ (p : Problem) (well : IsWellFormed p) where
   -- ---- nothing is feasible
 
   not_final : NothingIsFeasible p → (s : State) → IsWholeState p s → is_final p s ≡ false
-  not_final none s h = ne_eqb s.stage (count p) (λ at. let u =
-      list_from (node_of s) h.landable.0 h.landable.1 at in none u.0 u.1)
+  not_final none s h = ne_eqb _ _ (λ at. let u = list_from (node_of s) h.landable.0 h.landable.1 at in none u.0 u.1)
 
   -- with no flight the list of none is feasible
   some_flight : NothingIsFeasible p → count p ≡ 0 → ⊥

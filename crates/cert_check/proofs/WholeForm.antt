@@ -33,8 +33,7 @@ use Rattle.cert_check.proofs.WholeUnique.{ascending}
 -- ---- each state
 
 some_pair : (q : Pair) (ps : List Pair) → InPairs q ps → 1 ≤ length ps
-some_pair q [] i = absurd i
-some_pair q (x ∷ ps) i = omega arith
+some_pair x0 x1 x2 = grind (arith, common_steps)
 
 module _ (p : Problem) (well : IsWellFormed p) where
   shape_of : (s : State) (xs : List Landing) → 1 ≤ s.stage → Legal (rules_of p) (ranks xs)
@@ -56,8 +55,7 @@ module _ (p : Problem) (well : IsWellFormed p) where
   states_in_form [] h k = tt
   states_in_form (s ∷ ss) h k = (
     in_form s (h 0 s (omega arith)) (k 0 s (omega arith)),
-    states_in_form ss (λ i d lt. h (suc i) d (omega arith))
-        (λ i d lt. k (suc i) d (omega arith)),
+    states_in_form ss (λ i d lt. h (suc i) d (omega arith)) (λ i d lt. k (suc i) d (omega arith)),
   )
 
 -- ---- how many

@@ -1,6 +1,7 @@
 -- What the pairs of a state come from: landings of the makespan cost nothing, and the last of them is at an open
 -- second.
-use Rattle.std.proofs.Common.{rules, ◌≡◌, ◌<◌, ◌≤◌, inl, inr, List, [], ◌∷◌, length, true, refl, sym, ap, ◌∙◌, arith}
+use Rattle.std.proofs.lemmas.Grind.{common_steps}
+use Rattle.std.proofs.Common.{◌≡◌, ◌<◌, ◌≤◌, inl, inr, List, [], ◌∷◌, length, true, refl, sym, ap, ◌∙◌, arith}
 use Rattle.std.specs.Prelude.{◌&&◌, nat_lt}
 use Rattle.std.proofs.lemmas.Bool.{and_parts}
 use Rattle.std.proofs.lemmas.Bool.Decides.{nat_tests}
@@ -44,10 +45,8 @@ module _ (p : Problem) (s : State) (q : Pair) where
   opened : (xs : List Landing) → 1 ≤ s.stage → Landed (λ r u. (ranked p).is_open r u ≡ true) (next_from (ranked p)) xs
       → pattern_node (rules_of p) (ranks xs) ≡ node_of s
       → pair_of (cost_at p) xs ≡ q → (ranked p).is_open s.last q.0 ≡ true
-  opened [] begun landed at is = search rules
-  opened (x ∷ xs) begun landed at is = search rules
+  opened x0 x1 x2 x3 x4 = grind (arith, common_steps)
 
 pub pairs_open : PairsAreOpenLaw
 pairs_open p s q h i =
-    let a = ((h.undominated q).0 i).attained in
-    opened p s q a.landings h.begun a.landed a.at a.is
+    let a = ((h.undominated q).0 i).attained in opened p s q a.landings h.begun a.landed a.at a.is

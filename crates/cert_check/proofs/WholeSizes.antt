@@ -69,11 +69,7 @@ module _ (t : ℕ → Bool) where
   passing_more c d here lt = grind (arith, passing_on (suc c) (d - suc c))
 
 few_of : (k : ℕ) → k ≤ greatest_k → passing (is_of_state k) (8 * 2 ^ (2 * k)) ≡ most_nodes k
-few_of zero le = refl
-few_of (suc zero) le = refl
-few_of (suc (suc zero)) le = refl
-few_of (suc (suc (suc zero))) le = refl
-few_of (suc (suc (suc (suc k)))) le = absurd (omega arith)
+few_of x0 x1 = grind (arith, common_steps)
 
 -- ---- a state's number
 
@@ -99,8 +95,7 @@ module _ (k n : ℕ) (narrow : k ≤ greatest_k) where
   number_is s h =
       let two = parts s h in
       let ones : eqb (ones_in (2 * k) (number_of s.pattern)) k ≡ true =
-      eq-eqb (ones_in (2 * k) (number_of s.pattern)) k (ap (λ (x : ℕ). ones_in x (number_of s.pattern)) (sym h.digits)
-      ∙ ones_are s.pattern ∙ h.ones) in
+      eq-eqb _ k (ap (λ (x : ℕ). ones_in x (number_of s.pattern)) (sym h.digits) ∙ ones_are s.pattern ∙ h.ones) in
       let there = last_there s h in cc
 
   -- the states of a problem before this one are at most so many
@@ -143,7 +138,6 @@ few_states p ss well h =
     mul-le-mul_right (most_nodes p.k) one in omega (arith, m)) in
     omega (
       arith,
-      (few_from p.k n well.few_places ss (most_nodes p.k) (ascending ss h.ascending)
-          (λ s i. (shaped s i, begun s i)) (let m = mul-le-mul_right (most_nodes p.k) (let x : 1 ≤ n + 1 =
-          omega arith in x) in omega (arith, m))),
+      (few_from p.k n well.few_places ss (most_nodes p.k) (ascending ss h.ascending) (λ s i. (shaped s i, begun s i))
+          (let m = mul-le-mul_right (most_nodes p.k) (let x : 1 ≤ n + 1 = omega arith in x) in omega (arith, m))),
     )

@@ -1,4 +1,5 @@
 -- The states of a whole certificate miss no successor, and have their shape.
+use Rattle.std.proofs.lemmas.Grind.{common_steps}
 use Rattle.std.proofs.Common.{rules, ◌≡◌, ℕ, zero, suc, ◌+◌, ◌-◌, ◌*◌, ◌<◌, ◌≤◌, inl, inr, Bool, true, false, not, ◌&&◌}
 use Rattle.std.proofs.Common.{leb, ltb, List, [], ◌∷◌, length, get_or, Option, Some, None, refl, sym, ap, subst, ◌∙◌}
 use Rattle.std.proofs.Common.{arith}
@@ -19,7 +20,7 @@ use Rattle.cps_theory.specs.LegalPrefix.{Legal}
 use Rattle.cps_theory.specs.Patterns.{IsShaped, PatternNode, PatternPermits, pattern_newest, pattern_node, pattern_push}
 use Rattle.cps_theory.specs.FirstFound.{with_number, element_from}
 use Rattle.cps_theory.specs.CertificateClosure as closure
-use Rattle.cps_theory.specs.CertificateClosure.{is_placed_by_pattern, permits_next, node_cmp}
+use Rattle.cps_theory.specs.CertificateClosure.{is_placed_by_pattern, permits_next}
 use Rattle.cps_theory.specs.laws.FirstFound.{none_from}
 use Rattle.cps_theory.specs.laws.LeastObjective.{next_later}
 use Rattle.cps_theory.specs.laws.NetworkLabels.{attained_next}
@@ -67,9 +68,8 @@ covers_by : (w : PatternNode) (q o : Pair) (ss : List State) (k : ℕ) (s : Stat
     → get_or ss k s ≡ s → node_of s ≡ w → InPairs o s.pairs → NoWorse o q → covers ss w q ≡ true
 unfolding closure.covers
 covers_by w q o [] k s lt e at i le = absurd (omega arith)
-covers_by w q o (t ∷ ss) zero s lt e at i le =
-    or_left (closure.covers_at node_of pairs_of w q t) (covers ss w q) (ap (closure.covers_at node_of pairs_of w q) e
-    ∙ covers_at w q o s at i le)
+covers_by w q o (t ∷ ss) zero s lt e at i le = or_left (closure.covers_at node_of pairs_of w q t)
+    (covers ss w q) (ap (closure.covers_at node_of pairs_of w q) e ∙ covers_at w q o s at i le)
 covers_by w q o (t ∷ ss) (suc k) s lt e at i le = simp (or_right, covers_by w q o ss k s (omega arith) e at i le)
 
 -- ---- the shape
@@ -126,14 +126,12 @@ module _ (p : Problem) (well : IsWellFormed p) where
       last_apart p.last (flight p (suc l)).category (flight p r).category in omega arith
 
   started : (l t r u : ℕ) → next_from (ranked p) l t r ≤ u → start_at p r ≤ u
-  started zero t r u le = le
-  started (suc l) t r u le = omega arith
+  started x0 x1 x2 x3 x4 = grind (arith, common_steps)
 
   ready_after : (xs : List Landing) → Landed opens (next_from (ranked p)) xs → (r : ℕ)
       → ready p (latest_landing xs).0 (latest_landing xs).1 r ≡ next_from (ranked p) (latest_landing xs).0
       (latest_landing xs).1 r
-  ready_after [] h r = refl
-  ready_after (x ∷ xs) h r = search (rules, ready_behind)
+  ready_after x0 x1 x2 = search (rules, ready_behind)
 
   ready_is : (w : PatternNode) (b : Pair) (r : ℕ) → Attains p w b → ready p w.2 b.0 r ≡ next_from (ranked p) w.2 b.0 r
   ready_is w b r a = search (rules, ready_after)
@@ -142,9 +140,8 @@ module _ (p : Problem) (well : IsWellFormed p) where
 
   next_attained : (w : PatternNode) (b q : Pair) (r : ℕ) → Attains p w b → PatternPermits (rules_of p) w r
       → successor p w.2 b r ≡ Some q → Attains p (pattern_push (rules_of p) w r) q
-  next_attained w b q r a m e =
-      attained_next PatternNode opens (first_at p) (next_from (ranked p)) (cost_at p) (Legal (rules_of p))
-      (pattern_node (rules_of p)) (PatternPermits (rules_of p)) (pattern_push (rules_of p)) pattern_newest
+  next_attained w b q r a m e = attained_next PatternNode opens (first_at p) (next_from (ranked p)) (cost_at p) (Legal
+      (rules_of p)) (pattern_node (rules_of p)) (PatternPermits (rules_of p)) (pattern_push (rules_of p)) pattern_newest
       (is_first_open p) (next_later (ranked p)) (costs_rise p) (pattern_network (rules_of p) ones) w b r q a m
       (sym (ap (λ (t : ℕ). option_map (λ (u : ℕ). (u, b.1 + cost_at p r u)) (first_at p r t)) (ready_is w b r a)) ∙ e)
 
@@ -202,7 +199,6 @@ module _ (p : Problem) (well : IsWellFormed p) where
     pub states_miss_none : (i : ℕ) (rest : List State) → All (IsWholeState p) rest → missed_from p ss i rest ≡ None
     unfolding closure.missed_from
     states_miss_none i [] h = refl
-    states_miss_none i (s ∷ rest) h =
-        ap (λ (o : Option ℕ). option_or (with_number i o) (missed_from p ss (i + 1) rest))
+    states_miss_none i (s ∷ rest) h = ap (λ (o : Option ℕ). option_or (with_number i o) (missed_from p ss (i + 1) rest))
         (first_missed_none (node_of s) s.pairs (attained_listed s (h 0 s (omega arith))))
         ∙ states_miss_none (i + 1) rest (λ k d lt. h (suc k) d (omega arith))

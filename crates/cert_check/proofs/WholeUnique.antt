@@ -1,8 +1,9 @@
 -- A problem has one list of states that leaves nothing out.
-use Rattle.std.proofs.Common.{arith, rules, ◌≡◌, true, List, [], ◌∷◌, refl, sym, subst}
+use Rattle.std.proofs.lemmas.Grind.{common_steps}
+use Rattle.std.proofs.Common.{arith, rules, ◌≡◌, true, List, [], ◌∷◌, sym, subst}
 use Rattle.std.specs.Ordering.{is_lt}
 use Rattle.std.specs.declared.cmp.Ordering.{Ordering}
-use Rattle.std.specs.declared.cmp.Ordering.TheVariants.{Less, Equal, Greater}
+use Rattle.std.specs.declared.cmp.Ordering.TheVariants.{Less}
 use Rattle.std.proofs.lemmas.Cmp.{tied_itself}
 use Rattle.landing_rules.specs.Problem.{Problem}
 use Rattle.cps_theory.specs.Labels.{InPairs, Pair}
@@ -24,9 +25,7 @@ abbrev Before : State → State → Type 0
 Before s t = node_cmp (node_of s) (node_of t) ≡ Less
 
 less_of : (o : Ordering) → is_lt o ≡ true → o ≡ Less
-less_of Less e = refl
-less_of Equal e = absurd cc
-less_of Greater e = absurd cc
+less_of x0 x1 = grind (arith, common_steps)
 
 before_trans : (a b c : State) → Before a b → Before b c → Before a c
 before_trans a b c h k = node_total.trans (node_of a) (node_of b) (node_of c) h k

@@ -1,5 +1,5 @@
 -- A whole certificate is accepted.
-use Rattle.std.proofs.Common.{rules, ◌≡◌, None, List, refl}
+use Rattle.std.proofs.Common.{rules, ◌≡◌, None, List}
 use Rattle.landing_rules.specs.Problem.{Problem}
 use Rattle.cps_problem.specs.WellFormed.{IsWellFormed}
 use Rattle.certificate.specs.declared.certificate.Claim.{Claim}
@@ -8,7 +8,7 @@ use Rattle.certificate.specs.States.{State}
 use Rattle.certificate.specs.Reading.{Cert}
 use Rattle.cert_check.specs.Landings.{Landings}
 use Rattle.cert_check.specs.States.{successor_failure, final_failure}
-use Rattle.cert_check.specs.Verdict.{flights_reason, claim_reason, state_reason, failure, verdict_by, verdict_of}
+use Rattle.cert_check.specs.Verdict.{flights_reason, claim_reason, state_reason, failure, verdict_of}
 use Rattle.cert_check.specs.Whole.{AreWholeStates, IsAnswered, IsWhole}
 use Rattle.cert_check.specs.WholeLaws.{claimed}
 use Rattle.cert_check.proofs.WholeStates.{none_misshapen, start_misses_none, states_miss_none}
@@ -21,8 +21,7 @@ module _ (p : Problem) (well : IsWellFormed p) where
 
   final_none : (c : Claim) (ls : Landings) (ss : List State) → IsAnswered p c ls → AreWholeStates p ss
       → final_failure p c ss ≡ None
-  final_none (claim.Optimal v) ls ss a h = optimal_final p well v ls a ss h.each
-  final_none claim.Infeasible ls ss a h = infeasible_final p well a.1 ss h.each
+  final_none x0 x1 x2 x3 x4 = search (rules, optimal_final, infeasible_final)
 
   states_pass : (c : Claim) (ls : Landings) (ss : List State) → IsAnswered p c ls → AreWholeStates p ss
       → state_reason p c ss ≡ None
@@ -37,10 +36,6 @@ module _ (p : Problem) (well : IsWellFormed p) where
   none_fails : (c : Cert) → IsWhole p c → failure p c ≡ None
   unfolding failure
   none_fails c h = search (rules, landings_pass, states_pass)
-
-  as_claimed : (c : Claim) → verdict_by c None ≡ claimed c
-  as_claimed (claim.Optimal v) = refl
-  as_claimed claim.Infeasible = refl
 
   pub whole_accepted : (c : Cert) → IsWhole p c → verdict_of p c ≡ claimed c.claim
   unfolding verdict_of

@@ -12,7 +12,6 @@ use Rattle.landing_rules.specs.Rules.{last_second}
 use Rattle.texts.specs.Parts.{parts}
 use Rattle.texts.specs.shared.Printed.{Lacks, callsign_lacks, cut, decimal_lacks, decimal_reads, lacks_by, uncut}
 use Rattle.certificate.specs.declared.certificate.Claim.{Claim}
-use Rattle.certificate.specs.declared.certificate.Claim.TheVariants.{Optimal, Infeasible}
 use Rattle.certificate.specs.Reading.{IsClaim}
 use Rattle.certificate.specs.Patterns.{is_pattern_length}
 use Rattle.certificate.specs.States.{Pair, State, IsState, is_pair}
@@ -69,9 +68,7 @@ digits_are d ds size = search (rules, length-map, all_digits)
 
 pub pattern_reads : (ds : List Bool) → is_pattern_length (length ds) ≡ true → pattern_in (pattern_text ds) ≡ Some ds
 unfolding pattern_in
-pattern_reads [] size = refl
-pattern_reads (true ∷ ds) size = simp (digits_are, digit_back)
-pattern_reads (false ∷ ds) size = simp (digits_are, digit_back)
+pattern_reads ds size = grind (arith, digits_are, digit_back)
 
 pattern_lacks : (ds : List Bool) → Lacks 32 (pattern_text ds)
 pattern_lacks [] = search rules
@@ -112,5 +109,4 @@ landing_no_state l c t = search rules
 
 pub claim_reads : (c : Claim) → IsClaim c → claim_in (claim_text c) ≡ Some c
 unfolding claim_in claim_by
-claim_reads Infeasible h = cc
-claim_reads (Optimal v) h = search (rules, uncut, decimal_lacks, decimal_reads)
+claim_reads c h = grind (arith, uncut, decimal_lacks, decimal_reads)

@@ -1,5 +1,5 @@
 -- What a text reads as prints back as the text.
-use Rattle.std.proofs.Common.{rules, ◌≡◌, ℕ, ◌<◌, ◌^◌, Bool, true, false, ltb, eqb, not, ◌&&◌, ◌||◌, List, [], ◌∷◌}
+use Rattle.std.proofs.Common.{rules, ◌≡◌, ℕ, ◌<◌, ◌^◌, Bool, true, ltb, eqb, not, ◌&&◌, ◌||◌, List, [], ◌∷◌}
 use Rattle.std.proofs.Common.{◌++◌, length, get_or, map, Some, refl, arith}
 use Rattle.std.specs.Prelude.{◌==◌, codes, decimal, bytes_eq, option_map, option_and_then}
 use Rattle.std.specs.List.{list_all, join_with_byte}
@@ -37,8 +37,7 @@ same_text a b e = search rules
 -- ---- numbers
 
 ascii_digits : (text : List ℕ) → list_all is_ascii_digit text ≡ true → all_ascii_digits text ≡ true
-ascii_digits [] e = refl
-ascii_digits (b ∷ text) e = cc
+ascii_digits text e = grind arith
 
 numeral : (text : List ℕ) → is_number text ≡ true → digits_value 10 text < 2 ^ 64
     → decimal (digits_value 10 text) ≡ text
@@ -86,9 +85,7 @@ digits_printed (b ∷ text) e = grind (arith, digits_printed text (and_parts (is
   where
     go : (x y : Bool) → (b == 48) ≡ x → (b == 49) ≡ y → x || y ≡ true
         → digit_text (digit_of b) ∷ map digit_text (map digit_of text) ≡ b ∷ map digit_text (map digit_of text)
-    go x true p q e = search rules
-    go true false p q e = search rules
-    go false false p q e = absurd cc
+    go x y p q e = grind arith
 
 some_digits : (text : List ℕ) → are_pattern_digits text ≡ true → pattern_text (map digit_of text) ≡ text
 some_digits [] e = absurd cc

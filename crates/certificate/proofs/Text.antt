@@ -11,7 +11,6 @@ use Rattle.landing_rules.specs.Rules.{last_second}
 use Rattle.texts.specs.Parts.{parts}
 use Rattle.texts.specs.shared.Printed.{Lacks, callsign_lacks, cut, decimal_lacks, lacks_by}
 use Rattle.certificate.specs.declared.certificate.Claim.{Claim}
-use Rattle.certificate.specs.declared.certificate.Claim.TheVariants.{Optimal, Infeasible}
 use Rattle.certificate.specs.States.{Pair, State, IsState, AreStates}
 use Rattle.certificate.specs.Reading.{Cert, IsClaim, AreLandings, IsCertificate, body_lines, certificate_by}
 use Rattle.certificate.specs.Reading.{certificate_of}
@@ -35,8 +34,7 @@ pair p a b = search (rules, join, number)
 
 pairs : (ps : List Pair) → ArePairs ps → Lacks 10 (pairs_text ps)
 pairs [] k = search rules
-pairs (p ∷ ps) k = All-cons test 32 (pair_text p ++ pairs_text ps) refl
-    (All-append test (pair_text p) (pairs_text ps) (pair p k.0 k.1) (pairs ps k.2))
+pairs (p ∷ ps) k = search (rules, All-cons, All-append, pair, pairs ps k.2)
 
 no_end : (ds : List Bool) → list_all (λ b. not (b == 10)) (map digit_text ds) ≡ true
 no_end [] = refl
@@ -62,8 +60,7 @@ landing_lacks : (l : List ℕ × ℕ) → is_callsign l.0 ≡ true → l.1 ≤ l
 landing_lacks l c t = search (rules, join, callsign_lacks, number)
 
 claim_lacks : (c : Claim) → IsClaim c → Lacks 10 (claim_text c)
-claim_lacks Infeasible h = search rules
-claim_lacks (Optimal v) h = search (rules, number)
+claim_lacks c h = grind (arith, number)
 
 state_parts : (ss : List State) → AreStates ss → parts 10 (state_lines ss) ≡ map state_text ss ++ [] ∷ []
 state_parts [] h = refl
@@ -72,20 +69,19 @@ state_parts (s ∷ ss) h = search (rules, cut, state_lacks, state_parts ss h.1)
 body_parts : (ls : List (List ℕ × ℕ)) (ss : List State) → AreLandings ls → AreStates ss
     → parts 10 (landing_lines ls ++ state_lines ss) ≡ map landing_text ls ++ (map state_text ss ++ [] ∷ [])
 body_parts [] ss hl h = state_parts ss h
-body_parts (l ∷ ls) ss hl h = grind (
-  arith,
-  common_steps,
-  body_parts ls ss hl.2 h,
-  cut 10 (landing_text l) (landing_lines ls ++ state_lines ss)
-      (landing_lacks l hl.0 hl.1) refl,
-)
+body_parts (l ∷ ls) ss hl h =
+    grind (
+      arith,
+      common_steps,
+      body_parts ls ss hl.2 h,
+      cut 10 (landing_text l) (landing_lines ls ++ state_lines
+          ss) (landing_lacks l hl.0 hl.1) refl,
+    )
 
 as_lines : (c : Claim) (ls : List (List ℕ × ℕ)) (ss : List State) (x : Cert)
     → lines_all 3 c ([], []) (map landing_text ls ++ (map state_text ss ++ [] ∷ [])) ≡ Ok x
     → body_lines c (map landing_text ls ++ (map state_text ss ++ [] ∷ [])) ≡ Ok x
-as_lines c [] [] x e = e
-as_lines c [] (s ∷ ss) x e = e
-as_lines c (l ∷ ls) ss x e = e
+as_lines c ls ss x e = grind arith
 
 -- reading what is printed gives the certificate again
 pub reads_back : (c : Cert) → IsCertificate c → certificate_of (certificate_text c) ≡ Ok c

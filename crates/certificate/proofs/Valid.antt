@@ -1,6 +1,6 @@
 -- What a text is read as keeps the ranges and the order.
-use Rattle.std.proofs.Common.{rules, ◌≡◌, ℕ, suc, ◌+◌, ◌-◌, ◌<◌, ◌≤◌, Bool, true, false, cond, List, [], ◌∷◌, ◌++◌}
-use Rattle.std.proofs.Common.{length, Option, Some, None, Result, Ok, Err, refl, arith, length-append}
+use Rattle.std.proofs.Common.{rules, ◌≡◌, ℕ, suc, ◌+◌, ◌-◌, ◌<◌, ◌≤◌, Bool, true, cond, List, [], ◌∷◌, ◌++◌}
+use Rattle.std.proofs.Common.{length, Option, Some, None, Result, Ok, Err, arith, length-append}
 use Rattle.std.specs.Prelude.{option_map, option_and_then}
 use Rattle.std.specs.List.{list_all}
 use Rattle.std.proofs.lemmas.Grind.{common_steps}
@@ -21,18 +21,15 @@ use Rattle.certificate.specs.shared.PartsKept.{landings_more}
 
 pub then_some : {A B : Type 0} (o : Option A) (f : A → Option B) (y : B) → option_and_then f o ≡ Some y
     → (x : A) × (o ≡ Some x) × (f x ≡ Some y)
-then_some (Some x) f y e = (x, refl, e)
-then_some None f y e = absurd cc
+then_some o f y e = grind arith
 
 pub map_some : {A B : Type 0} (o : Option A) (f : A → B) (y : B) → option_map f o ≡ Some y
     → (x : A) × (o ≡ Some x) × (f x ≡ y)
-map_some (Some x) f y e = (x, refl, cc)
-map_some None f y e = absurd cc
+map_some o f y e = grind arith
 
 -- a test that let a value through
 pub passed_then : {A : Type 0} (b : Bool) (o : Option A) (y : A) → cond b o None ≡ Some y → (b ≡ true) × (o ≡ Some y)
-passed_then true o y e = (refl, e)
-passed_then false o y e = absurd cc
+passed_then b o y e = grind arith
 
 pub number_range : (text : List ℕ) (least most n : ℕ) → number_in text least most ≡ Some n → (least ≤ n) × (n ≤ most)
 unfolding number_in number_within
@@ -93,12 +90,10 @@ record IsBody (b : Body) : Type 0 where
 
 pub bind_ok : {A B : Type 0} (r : Result A CertFault) (f : A → Result B CertFault) (y : B)
     → (r >>= f) ≡ Ok y → (x : A) × (r ≡ Ok x) × (f x ≡ Ok y)
-bind_ok (Ok x) f y e = (x, refl, e)
-bind_ok (Err d) f y e = absurd cc
+bind_ok r f y e = grind arith
 
 pub done : {A : Type 0} (b : Bool) (x y : A) (f : CertFault) → cond b (Ok x) (Err f) ≡ Ok y → (b ≡ true) × (x ≡ y)
-done true x y f e = (refl, cc)
-done false x y f e = absurd cc
+done b x y f e = grind arith
 
 -- one line adds one landing or one state, and keeps the order
 line_keeps : (n : ℕ) (b : Body) (line : List ℕ) (b' : Body) → line_in n b line ≡ Ok b' → IsBody b

@@ -1,13 +1,12 @@
 -- A whole text that is read prints back as the text.
-use Rattle.std.proofs.Common.{rules, ◌≡◌, ℕ, ◌+◌, Bool, true, false, cond, List, [], ◌∷◌, ◌++◌, length, Option, Some}
-use Rattle.std.proofs.Common.{None, Result, Ok, Err, refl, sym, ap, ◌∙◌, arith, append_assoc}
+use Rattle.std.proofs.Common.{rules, ◌≡◌, ℕ, ◌+◌, true, List, [], ◌∷◌, ◌++◌, length, Option, Some}
+use Rattle.std.proofs.Common.{None, Result, Ok, refl, sym, ap, ◌∙◌, arith, append_assoc}
 use Rattle.std.proofs.lemmas.Grind.{common_steps}
 use Rattle.std.specs.Prelude.{◌==◌, codes, bytes_eq, IfOk}
 use Rattle.std.specs.List.{join_with_byte}
 use Rattle.cps_base.specs.Answers.{Gives}
 use Rattle.certificate.specs.declared.certificate.Claim.{Claim}
 use Rattle.certificate.specs.declared.fault.CertFault.{CertFault}
-use Rattle.certificate.specs.declared.fault.CertFault.TheVariants as fault
 use Rattle.certificate.specs.States.{State}
 use Rattle.texts.specs.Parts.{parts}
 use Rattle.certificate.specs.Lines.{claim_in}
@@ -32,8 +31,7 @@ states_printed [] s = refl
 states_printed (x ∷ xs) s = grind (arith, common_steps, states_printed xs s)
 
 no_states : (ss : List State) → length ss == 0 ≡ true → ss ≡ []
-no_states [] e = refl
-no_states (s ∷ ss) e = search rules
+no_states ss e = grind (arith, common_steps)
 
 line_printed : (n : ℕ) (b : Body) (line : List ℕ) (b' : Body) → line_in n b line ≡ Ok b'
     → body_text b' ≡ body_text b ++ (line ++ 10 ∷ [])
@@ -82,16 +80,8 @@ prints_back bytes c e = head (parts 10 bytes) refl e
     head : (lines : List (List ℕ)) → parts 10 bytes ≡ lines → certificate_by lines ≡ Ok c
         → codes "certificate 1" ++ 10 ∷ (claim_text c.claim
         ++ 10 ∷ (landing_lines c.landings ++ state_lines c.states)) ≡ bytes
-    head [] f e = absurd cc
-    head (first ∷ rest) f e = by (bytes_eq first (codes "certificate 1")) refl e
-      where
-        by : (b : Bool) → bytes_eq first (codes "certificate 1") ≡ b
-            → cond b (claim_behind rest) (Err (fault.Line 1)) ≡ Ok c → codes "certificate 1"
-            ++ 10 ∷ (claim_text c.claim ++ 10 ∷ (landing_lines c.landings ++ state_lines c.states)) ≡ bytes
-        by false p e = absurd cc
-        by true p e = claim first rest p f e
+    head lines f e = grind (arith, claim)
 
 pub prints_if_read : (bytes : List ℕ) (r : Result Cert CertFault) → Gives memory_fault r (certificate_of bytes)
     → IfOk r (λ c. certificate_text c ≡ bytes)
-prints_if_read bytes (Ok c) g = prints_back bytes c g
-prints_if_read bytes (Err e) g = tt
+prints_if_read bytes r g = grind (arith, prints_back)

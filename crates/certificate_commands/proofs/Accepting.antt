@@ -57,8 +57,6 @@ printed_accepted law a f text answer printed =
     let there : AdmitsCheck a f text line Accepted = may_accept a f text answer printed in
     record {
       taken = λ cause. three_taken _ a f text _ there.judges Certificate cause there.judges.holds.taken;
-      answered = λ other told. (
-        λ here. text_is_one law a f text other line told Accepted here there,
-        λ same. rw (same.0, same.1) there,
-      );
+      answered = λ other told.
+          (λ here. text_is_one law a f text other line told Accepted here there, λ same. rw (same.0, same.1) there);
     }

@@ -81,8 +81,7 @@ differ law aerodrome flights c d text other x y first second =
       others = d.landings;
       first = first;
       second = again;
-      none = λ e.
-          (let left = no_landings x.judged.problem c.claim c.landings e x.whole.answer in
+      none = λ e. (let left = no_landings x.judged.problem c.claim c.landings e x.whole.answer in
           let right = no_landings y.judged.problem d.claim d.landings (sym claims ∙ e) y.whole.answer in
           first ∙ ap (λ (ls : Landings). with_landings ls c.claim c.states) (left ∙ sym right) ∙ sym again);
     }
@@ -116,8 +115,7 @@ few_waiting s p h =
 
 bound_rises : (o : Objective) (k n m : ℕ) → n ≤ m → whole_bound o k n ≤ whole_bound o k m
 bound_rises o k n m le =
-    let nodes = mul-le-mul_right (most_nodes k) le in
-    omega (arith, mul-le-mul_right (most_pairs o) nodes)
+    let nodes = mul-le-mul_right (most_nodes k) le in omega (arith, mul-le-mul_right (most_pairs o) nodes)
 
 module _ (law : WholeCertificateIsBoundedLaw) (a f text : List ℕ) (answer : Answer)
     (x : AdmitsCertify a f text answer) where
@@ -130,20 +128,15 @@ module _ (law : WholeCertificateIsBoundedLaw) (a f text : List ℕ) (answer : An
       judged.in_form x.holds.certified.whole in
       let all = length-map (map flight_of x.flights) (opening_flight (opening_of x.aerodrome)) in
       let few : length p.flights ≤ min most_waiting (length x.flights) =
-      omega (
-        arith,
-        few_waiting s p judged.problem_of,
-        length-map x.flights flight_of,
-        judged.well_formed.few_flights,
-      ) in
+      omega
+      (arith, few_waiting s p judged.problem_of, length-map x.flights flight_of, judged.well_formed.few_flights) in
       let rises = bound_rises x.aerodrome.objective x.aerodrome.k _ _ few in
       let named = rw (judged.problem_of.k, judged.problem_of.objective) at whole in
       omega (arith, named, rises, ap length x.holds.prints)
 
 pub certify_short : WholeCertificateIsBoundedLaw → CertifyIsBoundedLaw
 certify_short law a f text answer x =
-    of_two a f _ x (λ r q. length text ≤ certify_bound_of r (count_in q))
-    (short law a f text answer x)
+    of_two a f _ x (λ r q. length text ≤ certify_bound_of r (count_in q)) (short law a f text answer x)
 
 pub certify_loadable : WholeCertificateIsBoundedLaw → LoadableIsShortLaw → CertifyIsLoadableLaw
 certify_loadable law loads a f text answer x few =
@@ -169,13 +162,11 @@ reason_short (Precedence r q) h = omega (arith, rank_short r h.0, rank_short q h
 reason_short (Shift r) h = omega (arith, rank_short r h, one_number r)
 reason_short (Value v) h = omega (arith, value_short v (omega (arith, h)), one_number v)
 reason_short (Shape i) h = omega (arith, value_short i (omega (arith, h)), one_number i)
-reason_short (Successor i r) h =
-    omega (arith, value_short i (omega (arith, h.0)), rank_short r h.1, two_numbers i r)
+reason_short (Successor i r) h = omega (arith, value_short i (omega (arith, h.0)), rank_short r h.1, two_numbers i r)
 reason_short (Final i) h = omega (arith, value_short i (omega (arith, h)), one_number i)
 
 verdict_short : (v : Verdict) → IsSmall v → length (verdict_text v) ≤ 33
-verdict_short (verdict.Optimal v) h =
-    omega (arith, value_short v (omega (arith, h)), one_number v)
+verdict_short (verdict.Optimal v) h = omega (arith, value_short v (omega (arith, h)), one_number v)
 verdict_short verdict.Infeasible h = omega arith
 verdict_short (verdict.Rejected r) h = reason_short r h
 

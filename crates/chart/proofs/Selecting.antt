@@ -132,20 +132,18 @@ module _ {Y : Type 0} (g : Element → List Y) (k : Skips g) where
       flat_map g (rows_drawn table span lines found n rows) ≡ flat_map (λ (r : Row). of_flight r ++ of_mark r.landing)
       rows
   rows_kept of_flight of_mark table span f e m lines found n [] = refl
-  rows_kept of_flight of_mark table span f e m lines found n (r ∷ rest) =
-      simp (
-        flat_map-append,
-        f n r,
-        landing r.landing,
-        rows_kept of_flight of_mark table span f e m lines found (n + 1) rest,
-      )
+  rows_kept of_flight of_mark table span f e m lines found n (r ∷ rest) = simp
+      (flat_map-append, f n r, landing r.landing, rows_kept of_flight of_mark table span f e m lines found (n + 1) rest)
     where
       landing : (l : Option ShownLanding) → flat_map g (landing_drawn table span n (is_flagged lines found r.callsign) r
           rest l) ≡ of_mark l
       landing None = sym e
-      landing (Some l) =
-          simp (flat_map-append, delay_none span n r.active l, all_owed_none table span n r l rest, append-nil)
-          (m n (is_flagged lines found r.callsign) l)
+      landing (Some l) = simp (
+        flat_map-append,
+        delay_none span n r.active l,
+        all_owed_none table span n r l rest,
+        append-nil,
+      ) (m n (is_flagged lines found r.callsign) l)
 
 -- ---- marks
 

@@ -26,17 +26,14 @@ pictured_of s title lines found rows all e h = h ∙ ap (in_frame s title lines 
 
 -- the sheet, the title, the horizon in words, the labels, the field, and where the lines below begin
 pub laid_out : (s : Situation) (title : Element) (lines : List ShownLanding) (found : List Finding) (rows : List Row)
-    {active : List Active} {below h said left : ℕ} {frame : Frame} {none a b c d e f g all : List Element} →
-    none ≡ [] → below ≡ lines_below found → h ≡ horizon s → said ≡ horizon s → active ≡ s.active
-    → frame ≡ frame_of h rows → left ≡ x_of (span_of frame) (first_of frame) - 35 →
-    a ≡ none ++ element.Sheet (length rows + below) ∷ [] → b ≡ a ++ title ∷ [] → c ≡ b ++ horizon_said said →
-    d ≡ c ++ labels_drawn active rows lines found 0 rows → e ≡ d ++ element.Field left ∷ []
-    → f ≡ e ++ field_drawn s lines found rows frame →
-    g ≡ f ++ element.FieldEnd ∷ [] → all ≡ g ++ element.Below (length rows) ∷ []
-    → all ≡ in_frame s title lines found rows
-laid_out s title lines found rows {a = a} {b = b} {c = c} {d = d} {e = e} {f = f} none_is below_is h_is said_is
-    active_is
-    frame_is left_is ea eb ec ed ee ef eg eall =
+    {active : List Active} {below h said left : ℕ} {frame : Frame} {none a b c d e f g all : List Element} → none ≡ []
+    → below ≡ lines_below found → h ≡ horizon s → said ≡ horizon s → active ≡ s.active → frame ≡ frame_of h rows
+    → left ≡ x_of (span_of frame) (first_of frame) - 35 → a ≡ none ++ element.Sheet (length rows + below) ∷ []
+    → b ≡ a ++ title ∷ [] → c ≡ b ++ horizon_said said → d ≡ c ++ labels_drawn active rows lines found 0 rows
+    → e ≡ d ++ element.Field left ∷ [] → f ≡ e ++ field_drawn s lines found rows frame → g ≡ f ++ element.FieldEnd ∷ []
+    → all ≡ g ++ element.Below (length rows) ∷ [] → all ≡ in_frame s title lines found rows
+laid_out s title lines found rows {a = a} {b = b}
+    {c = c} {d = d} {e = e} {f = f} none_is below_is h_is said_is active_is frame_is left_is ea eb ec ed ee ef eg eall =
     let framed = frame_is ∙ ap (λ (n : ℕ). frame_of n rows) h_is in
     let at = left_is ∙ ap (λ (x : Frame). x_of (span_of x) (first_of x) - 35) framed in
     let frame_at = frame_of (horizon s) rows in

@@ -24,8 +24,7 @@ pattern_reached : ReachedIn pair_of_flights (pattern_node two (2 ∷ 1 ∷ [])) 
 pattern_reached = record {
   landings = (2, 1060) ∷ (1, 1000) ∷ [];
   legal = in_order_legal;
-  landed =
-      (refl, omega arith, (refl, omega arith, tt));
+  landed = grind arith;
   at = refl;
   by = omega arith;
 }
@@ -50,8 +49,7 @@ no_rank r i = absurd (omega arith)
 finds_open : FindsFirstOpen nobody at_once
 finds_open = record {
   found = λ r t u e. (refl, let s : t ≡ u = cc in omega arith);
-  least =
-      λ r t v o le. (t, refl, le);
+  least = search;
 }
 
 closed_certificate : IsClosedCertificate nobody at_once (λ r t. 0) (λ w. (0, 0) ∷ [])
@@ -115,17 +113,7 @@ first r t = Some (max t 1000)
 choose_one : Choice PatternNode first (next_from pair_of_flights) (λ r t. 0) (PatternPermits two)
     (pattern_push two) pattern_newest (λ w q. InPairs q ((1000, 0) ∷ [])) 0 (pattern_node two []) (0, 0) 1 1000
 choose_one = record {
-  permitted = record {
-    from_one = omega arith;
-    to_count = omega arith;
-    is_new =
-        λ h. elim h [ inl le ↦ absurd (omega arith) | inr e ↦ absurd (false≢true e) ];
-    not_early = omega arith;
-    not_late =
-        omega arith;
-    after = λ a one b. absurd (false≢true b);
-    due = λ x one e. absurd (omega arith);
-  };
+  permitted = grind arith;
   found = refl;
   can_end = ((1000, 0), inl refl, omega arith, omega arith);
 }
@@ -134,25 +122,7 @@ choose_one = record {
 completing_kept : KeptCompleting (CompletesNode nobody (λ r t. 0) (λ t. leb t 0) (pattern_node nobody.rules []))
     (λ q. InPairs q ((0, 0) ∷ []))
 completing_kept = record {
-  completes = λ q i. elim i [
-    | inl e ↦ subst (λ (z : Pair). CompletesNode nobody (λ r t. 0) (λ t. leb t 0) (pattern_node nobody.rules []) z)
-        (sym e) (record {
-          opened = refl;
-          reached = record {
-            landings = [];
-            legal = tt;
-            landed =
-                tt;
-            at = refl;
-            by = zero-le;
-          };
-          low = refl;
-          rest = [];
-          follows = refl;
-          cost_is = refl;
-        })
-    | inr j ↦ absurd j
-  ];
+  completes = grind arith;
   covers = λ q c. ((0, 0), inl refl, (leb-true q.0 0 c.low, zero-le));
 }
 

@@ -16,7 +16,6 @@ runs_accepted law words old new status a f text answer printed there done unfail
           let same = (accepted.answered prints.text ended.0).0 prints.admitted in
           inr (
             ended.1 ∙ ap answer_status same.1,
-            subst
-                (λ (line : List ℕ). Grows old.out new.out line) same.0 prints.written.grew,
+            subst (λ (line : List ℕ). Grows old.out new.out line) same.0 prints.written.grew,
           )
     ]

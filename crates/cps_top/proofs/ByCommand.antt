@@ -42,15 +42,13 @@ number_in_range word least most n e = go (number_within word least most) (λ m h
 numbers_fit : (a b d : Option ℕ) (c : Command) (words : List (List ℕ))
     → ((n : ℕ) → b ≡ Some n → (1 ≤ n) × (n ≤ most_waiting)) → ((k : ℕ) → d ≡ Some k → (0 ≤ k) × (k ≤ greatest_k))
     → trial_by a b d ≡ Some c → Fits c words
-numbers_fit (Some s) (Some n) (Some k) c words few near e =
-    subst (λ (x : Command). Fits x words) (same_Some (Trial s n k) c e)
-    (refl, ((few n refl).0, (few n refl).1, (near k refl).1))
+numbers_fit (Some s) (Some n) (Some k) c words few near e = subst (λ (x : Command). Fits x words)
+    (same_Some (Trial s n k) c e) (refl, ((few n refl).0, (few n refl).1, (near k refl).1))
 numbers_fit a b d c words few near e = absurd (cc e)
 
 trial_fits : (rest : List (List ℕ)) (c : Command) (words : List (List ℕ)) → trial_of rest ≡ Some c → Fits c words
-trial_fits (s ∷ n ∷ k ∷ []) c words e =
-    numbers_fit (number_of s 0 greatest_word) (number_of n 1 most_waiting) (number_of k 0 greatest_k) c words
-    (λ m is. number_in_range n 1 most_waiting m is) (λ m is. number_in_range k 0 greatest_k m is) e
+trial_fits (s ∷ n ∷ k ∷ []) c words e = numbers_fit (number_of s 0 greatest_word) (number_of n 1 most_waiting)
+    (number_of k 0 greatest_k) c words (λ m is. number_in_range n 1 most_waiting m is) (λ m is. number_in_range k 0 greatest_k m is) e
 trial_fits rest c words e = absurd (cc e)
 
 as_many : (a : Bool) (n m : ℕ) → (a && (n == m)) ≡ true → n ≡ m

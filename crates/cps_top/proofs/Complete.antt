@@ -24,9 +24,8 @@ contents_same (x ∷ xs) [] e = cc
 contents_same (x ∷ xs) (y ∷ ys) e = let rest = contents_same xs ys (cc) in cc
 
 -- what was loaded is what is there, also of no file
-loaded_same : (old new : FolderState) (ns held contents : List (List ℕ)) → (ns ≢ [] → IsTrue old.tells)
-    → map old.content ns ≡ map Some contents →
-    Loads old new ns held → held ≡ contents
+loaded_same : (old new : FolderState) (ns held contents : List (List ℕ))
+    → (ns ≢ [] → IsTrue old.tells) → map old.content ns ≡ map Some contents → Loads old new ns held → held ≡ contents
 loaded_same old new [] [] contents tells told loads = contents_same [] contents told
 loaded_same old new [] (c ∷ held) contents tells told loads = absurd (omega (arith, loads.count))
 loaded_same old new (n ∷ ns) held contents tells told loads =
@@ -69,9 +68,8 @@ part_within content names cs before after name told bounded split =
 named_within : (content : List ℕ → Option (List ℕ)) (ns cs : List (List ℕ)) (place : ℕ) (name : List ℕ)
     → map content ns ≡ map Some cs → AllByRecursion (λ b. length b ≤ most_bytes) cs
     → take place ns ≡ take (place - 1) ns ++ name ∷ [] → Within (content name)
-named_within content ns cs place name told bounded step =
-    part_within content ns cs (take (place - 1) ns) (drop place ns) name told bounded
-    (sym (ap (λ q. q ++ drop place ns) (sym step) ∙ take-append-drop place ns))
+named_within content ns cs place name told bounded step = part_within content ns cs (take (place - 1) ns)
+    (drop place ns) name told bounded (sym (ap (λ q. q ++ drop place ns) (sym step) ∙ take-append-drop place ns))
 
 -- a load that stopped was of some file
 some_names : (ns : List (List ℕ)) (place : ℕ) → 1 ≤ place → place ≤ length ns → ns ≢ []
@@ -87,8 +85,7 @@ module _ (words : List (List ℕ)) (old new : Outside) (command : Command) (cont
     (there : AreThere words old command contents) where
   -- the command ran over them
   pub serves : (ending : Ending) → Serves words old new ending → Follows command contents old.out new.out ending
-  serves ending s =
-      subst (λ q. Follows command q old.out new.out ending)
+  serves ending s = subst (λ q. Follows command q old.out new.out ending)
       (loaded_same old.folder new.folder (files_of words) s.contents contents there.tells there.told s.loads)
       (subst (λ q. Follows q s.contents old.out new.out ending)
       (same_Some s.command command (sym s.named ∙ there.named)) s.follows)

@@ -31,9 +31,8 @@ asked_before before after names name place le split =
 
 -- a load that failed is that of the first file that is too long, or of an earlier one
 fails_within : (old new : FolderState) (names before after : List (List ℕ)) (name bytes : List ℕ) (place : ℕ)
-    → IsTrue old.tells →
-    names ≡ (before ++ name ∷ []) ++ after → old.content name ≡ Some bytes → most_bytes < length bytes →
-    FailsAt old new names place → FailsWithin old new (before ++ name ∷ [])
+    → IsTrue old.tells → names ≡ (before ++ name ∷ []) ++ after → old.content name ≡ Some bytes
+    → most_bytes < length bytes → FailsAt old new names place → FailsWithin old new (before ++ name ∷ [])
 fails_within old new names before after name bytes place tells split content longer fails = record {
   cause = fails.cause;
   asked = λ told. elim (cases_lt (length before + 1) place) [
@@ -82,12 +81,11 @@ module _ (words : List (List ℕ)) (old new : Outside) (status : ℕ) where
   }
   exact (NotLoaded place) is ends = record {
     refused = λ command contents refusal there refuses. inr (inr (is, ends.loads.cause));
-    too_long = λ command before after name bytes named tells split content longer.
-        inr (inr (
-          is,
-          fails_within old.folder new.folder
-              (files_of words) before after name bytes place tells split content longer ends.loads,
-        ));
+    too_long = λ command before after name bytes named tells split content longer. inr (inr (
+      is,
+      fails_within old.folder new.folder
+          (files_of words) before after name bytes place tells split content longer ends.loads,
+    ));
   }
   exact NotWritten is ends = record {
     refused = λ command contents refusal there refuses.

@@ -30,15 +30,13 @@ answers answer = (λ e. omega arith, λ e. omega arith, λ e. omega arith)
 -- the even statuses above 0 say that not all files need have been asked for
 not_all : (half status : ℕ) → 1 ≤ half → status ≡ half + half → (status ≡ 0) ⊎ (status ≡ 1)
     ⊎ (status ≡ 3) ⊎ (status ≡ 5) ⊎ (status ≡ 7) → ⊥
-not_all half status some even told =
-    elim told [
-      | inl a ↦ omega arith
-      | inr (inl a) ↦ omega arith
-      | inr (inr (inl a)) ↦
-          omega arith
-      | inr (inr (inr (inl a))) ↦ omega arith
-      | inr (inr (inr (inr a))) ↦ omega arith
-    ]
+not_all half status some even told = elim told [
+  | inl a ↦ omega arith
+  | inr (inl a) ↦ omega arith
+  | inr (inr (inl a)) ↦ omega arith
+  | inr (inr (inr (inl a))) ↦ omega arith
+  | inr (inr (inr (inr a))) ↦ omega arith
+]
 
 module _ (words : List (List ℕ)) (old new : Outside) (status : ℕ) where
   ran : (ending : Ending) → IsOfRun status → Serves words old new ending → Asks words old new status

@@ -1,4 +1,5 @@
 -- What is left of a stage and its lists where the windows without a pair are left out.
+use Rattle.std.proofs.lemmas.Grind.{common_steps}
 use Rattle.std.proofs.Common.{arith, ◌≡◌, ℕ, ◌<◌, List, [], ◌∷◌, length, map, Bool, true, false, inl, refl, ap}
 use Rattle.std.specs.Prelude.{ℤ, All, nat_lt, ◌↔◌}
 use Rattle.std.proofs.lemmas.List.Elements.{All-head, All-tail}
@@ -26,14 +27,8 @@ map_kept f (false ∷ bs) (x ∷ xs) = map_kept f bs xs
 pub parts_have : (pairs : List Pair) (parts : List (ℕ × ℕ)) → All (IsPart (length pairs)) parts
     → map (λ (x : ℕ × ℕ). nat_lt x.0 x.1) parts ≡ map has_some (lists_of pairs parts)
 parts_have pairs [] all = refl
-parts_have pairs (x ∷ parts) all =
-    grind (
-      arith,
-      part_has_some,
-      All-head,
-      All-tail,
-      parts_have pairs parts (All-tail (IsPart (length pairs)) x parts all),
-    )
+parts_have pairs (x ∷ parts) all = grind
+    (arith, part_has_some, All-head, All-tail, parts_have pairs parts (All-tail (IsPart (length pairs)) x parts all))
 
 pub lists_kept : (pairs : List Pair) (parts : List (ℕ × ℕ)) (bs : List Bool) (after : List (ℕ × ℕ))
     (lists : List (List Pair)) → after ≡ kept_where bs parts → bs ≡ map has_some (lists_of pairs parts)
@@ -47,8 +42,7 @@ some_pair [] e = absurd (cc)
 some_pair (q ∷ qs) e = (q, inl refl)
 
 pair_some : (pairs : List Pair) (q : Pair) → InPairs q pairs → has_some pairs ≡ true
-pair_some [] q i = absurd i
-pair_some (x ∷ qs) q i = refl
+pair_some pairs q i = grind (arith, common_steps)
 
 -- ---- the landable windows are left
 
@@ -56,10 +50,8 @@ module _ (p : Problem) (stage : ℕ) (windows : List (List ℤ)) (lists : List (
     (each : HasEachLandable p (stage, windows)) (are : AreCosts p (stage, windows) lists) where
   some_landable : (i : ℕ) → i < length windows → (has_some (list_at lists i) ≡ true)
       ↔ IsLandable p stage (node_at windows i)
-  some_landable i lt = (
-    grind (arith, some_pair),
-    λ l. let o = (are.pairs i lt).covers l.0 l.1 in pair_some (list_at lists i) o.0 o.1,
-  )
+  some_landable i lt =
+      (grind (arith, some_pair), λ l. let o = (are.pairs i lt).covers l.0 l.1 in pair_some (list_at lists i) o.0 o.1)
 
   pub kept_costs : HoldsCosts p (stage, known_of lists windows) (known_of lists lists)
   kept_costs = record {

@@ -1,10 +1,7 @@
 -- How much attained pairs cost at most.
-use Rattle.std.proofs.Common.{ℕ, zero, suc, ◌*◌, ◌≤◌, List, [], ◌∷◌, length, arith, le_trans}
+use Rattle.std.proofs.lemmas.Grind.{common_steps}
+use Rattle.std.proofs.Common.{ℕ, ◌*◌, ◌≤◌, List, [], ◌∷◌, length, arith, le_trans}
 use Rattle.std.specs.Prelude.{ℤ}
-use Rattle.std.proofs.Math.Nat.{mul-le-mul_right}
-use Rattle.std.proofs.lemmas.Bool.{cases_lt}
-use Rattle.std.proofs.lemmas.List.{get_or_past}
-use Rattle.cps_base.specs.Limits.{dearest_landing}
 use Rattle.cps_theory.specs.Separation.{Landing}
 use Rattle.cps_theory.specs.LandingTrail.{cost_of, latest_landing, ranks}
 use Rattle.cps_theory.specs.Labels.{Pair}
@@ -14,7 +11,6 @@ use Rattle.cps_theory.specs.ProblemNetwork.{LandedIn}
 use Rattle.cps_theory.specs.RankLists.{of_rank}
 use Rattle.landing_joint.specs.RankedProblem.{no_waiting, ranked, cost_at, cost_by}
 use Rattle.landing_rules.specs.declared.objective.Objective.{Objective}
-use Rattle.landing_rules.specs.declared.objective.Objective.TheVariants.{Makespan, Delay}
 use Rattle.landing_rules.specs.Problem.{Problem, Waiting}
 use Rattle.landing_rules.specs.Rules.{last_second}
 use Rattle.cps_problem.specs.WellFormed.{IsWellFormed}
@@ -22,12 +18,10 @@ use Rattle.cps_network.specs.Landable.{Attains}
 
 cost_small_by : (o : Objective) (f : Waiting) (t : ℕ) → f.weight ≤ 100 → t ≤ last_second
     → cost_by o f t ≤ dearest_landing
-cost_small_by Makespan f t light low = omega arith
-cost_small_by Delay f t light low = grind (arith, mul-le-mul_right)
+cost_small_by o f t light low = grind (arith, common_steps)
 
 light_at : (p : Problem) → IsWellFormed p → (r : ℕ) → (of_rank no_waiting p.flights r).weight ≤ 100
-light_at p wf zero = omega arith
-light_at p wf (suc i) = grind (arith, cases_lt, wf.weights, get_or_past)
+light_at p wf given = grind (arith, common_steps)
 
 module _ (p : Problem) (wf : IsWellFormed p) where
   cost_small : (r t : ℕ) → t ≤ last_second → cost_at p r t ≤ dearest_landing
@@ -36,9 +30,7 @@ module _ (p : Problem) (wf : IsWellFormed p) where
   -- the landing before is earlier
   before_low : (xs : List Landing) (r t : ℕ) → Legal (ranked p).rules (ranks xs)
       → next_from (ranked p) (latest_landing xs).0 (latest_landing xs).1 r ≤ t → (latest_landing xs).1 ≤ t
-  before_low [] r t legal le = omega arith
-  before_low ((zero, u) ∷ xs) r t legal le = absurd (let a = legal.0.fits.from_one in omega arith)
-  before_low ((suc l, u) ∷ xs) r t legal le = omega (arith, le)
+  before_low xs r t legal le = grind (arith, common_steps)
 
   trail_small : (xs : List Landing) → Legal (ranked p).rules (ranks xs) → LandedIn (ranked p) xs
       → (latest_landing xs).1 ≤ last_second → cost_of (cost_at p) xs ≤ dearest_landing * length (ranks xs)

@@ -17,12 +17,11 @@ use denote.Param.Members.{Mut, Called}
 -- the numbers of a range so far, each in turn
 number_at : (xs : List ℕ) (from n i k : ℕ) → from + i ≡ k → map (λ x. x) xs ≡ take (length xs) (range_with_len from n)
     → i < length xs → (slice_get xs i ≡ Some k) × (i < n)
-number_at xs from n i k at is lt =
-    let few : i < n = grind (arith, length-map, length-take, length-range_with_len) in (
-      slice_get-get_or xs i 0 lt ∙ ap Some (ap (λ l. slice_index_or l i 0) (sym (map-id xs) ∙ is)
-          ∙ get_or-take (length xs) (range_with_len from n) i 0 lt ∙ get_or-range_with_len from n i 0 few ∙ at),
-      few,
-    )
+number_at xs from n i k at is lt = let few : i < n = grind (arith, length-map, length-take, length-range_with_len) in (
+  slice_get-get_or xs i 0 lt ∙ ap Some (ap (λ l. slice_index_or l i 0) (sym (map-id xs) ∙ is)
+      ∙ get_or-take (length xs) (range_with_len from n) i 0 lt ∙ get_or-range_with_len from n i 0 few ∙ at),
+  few,
+)
 
 module _ {C F : Type 0} {g : Mut F (ℕ × Unit {0}) (Option C)} (f : F) (Yes : ℕ → C → Type 0) (No : ℕ → Type 0)
     (some : (x : ℕ) (y : C) (q : F) → Called g f (x, tt) (Some y) q → (q ≡ f) × Yes x y) (none : (x : ℕ) (q : F)

@@ -1,11 +1,11 @@
 -- Lists of pairs, and the successors of their pairs.
+use Rattle.std.proofs.lemmas.Grind.{common_steps}
 use Rattle.std.proofs.Common.{rules, ◌≡◌, ℕ, zero, suc, ◌+◌, ◌-◌, ◌<◌, ◌≤◌, ◌⊎◌, inl, inr, List, [], ◌∷◌, ◌++◌, length}
-use Rattle.std.proofs.Common.{take, drop, Option, Some, None, Bool, cond, append_assoc, refl, sym, ap, subst, ◌∙◌}
+use Rattle.std.proofs.Common.{take, drop, Option, Some, None, refl, sym, ap, subst, ◌∙◌}
 use Rattle.std.proofs.Common.{arith}
-use Rattle.std.proofs.lemmas.Option.{same_Some}
 use Rattle.std.specs.Prelude.{slice_range}
 use Rattle.std.specs.List.{flat_map}
-use Rattle.std.proofs.lemmas.Bool.{cases_eq, lt-ltb, le-ltb}
+use Rattle.std.proofs.lemmas.Bool.{cases_eq}
 use Rattle.std.proofs.lemmas.List.{at_drop_more, length-take, length-drop, take_more, get_or-take, get_or-drop}
 use Rattle.std.proofs.lemmas.List.{flat_map_more, length_push, get_or_push, get_or_append_left}
 use Rattle.landing_rules.specs.Problem.{Problem}
@@ -18,15 +18,10 @@ use Rattle.cps_network.specs.shared.PairLists.{in_append, in_left, in_right}
 -- ---- successors
 
 some_in : (o : Option Pair) (qs : List Pair) (q : Pair) → InPairs q (some_before o qs) → (o ≡ Some q) ⊎ InPairs q qs
-some_in None qs q i = inr i
-some_in (Some x) qs q (inl e) = inl (ap Some (sym e))
-some_in (Some x) qs q (inr i) = inr i
+some_in o qs q i = grind (arith, common_steps)
 
 in_some : (o : Option Pair) (qs : List Pair) (q : Pair) → (o ≡ Some q) ⊎ InPairs q qs → InPairs q (some_before o qs)
-in_some None qs q (inl e) = absurd (cc)
-in_some None qs q (inr i) = i
-in_some (Some x) qs q (inl e) = inl (sym (same_Some x q e))
-in_some (Some x) qs q (inr i) = inr i
+in_some o qs q given = grind (arith, common_steps)
 
 -- each is the successor of one of the pairs
 pub given_by : (p : Problem) (last rank : ℕ) (pairs : List Pair) (q : Pair) → InPairs q (successors p last rank pairs)
@@ -64,9 +59,7 @@ range_at lists from to i lt = grind (arith, length-take, get_or-take, get_or-dro
 
 pub given_in_range : (p : Problem) (last rank : ℕ) (lists : List (List Pair)) (from to : ℕ) (q : Pair)
     → InPairs q (successors_in p last rank lists from to) → IsGivenIn p last rank lists from to q
-given_in_range p last rank lists from to q i =
-    let f = flat_in (successors p last rank) (slice_range lists from to) q i in
-    let r = range_at lists from to f.0 f.1 in grind (arith, given_by)
+given_in_range p last rank lists from to q i = search (rules, flat_in, slice_range, range_at, given_by)
 
 pub range_gives : (p : Problem) (last rank : ℕ) (lists : List (List Pair)) (from to : ℕ) (q : Pair)
     → to ≤ length lists → IsGivenIn p last rank lists from to q → InPairs q (successors_in p last rank lists from to)
@@ -87,52 +80,29 @@ range_gives p last rank lists from to q within g =
 -- ---- one pair more of a list
 
 pub one_more : (p : Problem) (last rank : ℕ) (pairs into more whole : List Pair) (i : ℕ) (q : Pair)
-    → i < length pairs → successor p last (pair_at pairs i) rank ≡ Some q → more ≡ into ++ q ∷ []
-    → into ++ successors p last rank (drop i pairs) ≡ whole
-    → more ++ successors p last rank (drop (i + 1) pairs) ≡ whole
-one_more p last rank pairs into more whole i q lt lands put is =
-    let rest = successors p last rank (drop (i + 1) pairs) in
-    let step : successors p last rank (drop i pairs) ≡ q ∷ rest =
-    at_drop_more (successors p last rank) pairs i (0, 0) lt ∙ ap (λ (o : Option Pair). some_before o rest) lands in
-    grind (arith, append_assoc)
+    → i < length pairs → successor p last (pair_at pairs i) rank ≡ Some q → more ≡ into ++ q ∷ [] →
+    into ++ successors p last rank (drop i pairs) ≡ whole → more ++ successors p last rank (drop (i + 1) pairs) ≡ whole
+one_more p last rank pairs into more whole i q lt lands put is = grind (arith, common_steps)
 
-pub none_more : (p : Problem) (last rank : ℕ) (pairs into more whole : List Pair) (i : ℕ) → i < length pairs
-    → successor p last (pair_at pairs i) rank ≡ None → more ≡ into
-    → into ++ successors p last rank (drop i pairs) ≡ whole
-    → more ++ successors p last rank (drop (i + 1) pairs) ≡ whole
-none_more p last rank pairs into more whole i lt lands same is =
-    let rest = successors p last rank (drop (i + 1) pairs) in
-    let step : successors p last rank (drop i pairs) ≡ rest =
-    at_drop_more (successors p last rank) pairs i (0, 0) lt ∙ ap (λ (o : Option Pair). some_before o rest) lands in
-    grind arith
+pub none_more : (p : Problem) (last rank : ℕ) (pairs into more whole : List Pair) (i : ℕ)
+    → i < length pairs → successor p last (pair_at pairs i) rank ≡ None → more ≡ into →
+    into ++ successors p last rank (drop i pairs) ≡ whole → more ++ successors p last rank (drop (i + 1) pairs) ≡ whole
+none_more p last rank pairs into more whole i lt lands same is = grind (arith, common_steps)
 
 pub sweep_more : (pairs into more whole : List Pair) (i least : ℕ) → i < length pairs → (pair_at pairs i).1 < least
     → more ≡ into ++ pair_at pairs i ∷ []
     → into ++ sweep least (drop i pairs) ≡ whole → more ++ sweep (pair_at pairs i).1 (drop (i + 1) pairs) ≡ whole
-sweep_more pairs into more whole i least lt cheaper put is =
-    let q = pair_at pairs i in
-    let rest = sweep q.1 (drop (i + 1) pairs) in
-    let step : sweep least (drop i pairs) ≡ q ∷ rest =
-    at_drop_more (sweep least) pairs i (0, 0) lt
-    ∙ ap (λ (b : Bool). cond b (q ∷ rest) (sweep least (drop (i + 1) pairs))) (lt-ltb q.1 least cheaper) in
-    grind (arith, append_assoc)
+sweep_more pairs into more whole i least lt cheaper put is = grind (arith, common_steps)
 
 pub sweep_past : (pairs into whole : List Pair) (i least : ℕ) → i < length pairs → least ≤ (pair_at pairs i).1
     → into ++ sweep least (drop i pairs) ≡ whole → into ++ sweep least (drop (i + 1) pairs) ≡ whole
-sweep_past pairs into whole i least lt dear is =
-    let q = pair_at pairs i in
-    let rest = sweep least (drop (i + 1) pairs) in
-    let step : sweep least (drop i pairs) ≡ rest =
-    at_drop_more (sweep least) pairs i (0, 0) lt ∙ ap (λ (b : Bool). cond b (q ∷ sweep q.1 (drop (i + 1) pairs)) rest)
-    (le-ltb q.1 least dear) in
-    ap (λ (l : List Pair). into ++ l) (sym step) ∙ is
+sweep_past pairs into whole i least lt dear is = grind (arith, common_steps)
 
 -- ---- one list more of a range
 
 pub range_more : (p : Problem) (last rank : ℕ) (into more : List Pair) (lists : List (List Pair)) (from i : ℕ)
-    → from ≤ i → i < length lists
-    → into ≡ successors_in p last rank lists from i → more ≡ into ++ successors p last rank (list_at lists i)
-    → more ≡ successors_in p last rank lists from (i + 1)
+    → from ≤ i → i < length lists → into ≡ successors_in p last rank lists from i
+    → more ≡ into ++ successors p last rank (list_at lists i) → more ≡ successors_in p last rank lists from (i + 1)
 range_more p last rank into more lists from i low lt is e =
     let n : (i + 1) - from ≡ (i - from) + 1 = omega (arith, low) in
     let b = length-drop from lists in
@@ -154,18 +124,7 @@ each_more P lists more pairs i e long old one = grind (arith, length_push, cases
 -- a pair before others in order, the first of which it may precede
 pub order_more : (a b : Pair) (ps : List Pair) → (a.0 < b.0) ⊎ ((a.0 ≡ b.0) × (a.1 ≤ b.1))
     → InPairOrder (b ∷ ps) → InPairOrder (a ∷ b ∷ ps)
-order_more a b ps low up = (before, up)
-  where
-    behind : (q : Pair) → (a.0 < b.0) ⊎ ((a.0 ≡ b.0) × (a.1 ≤ b.1)) → (b.0 < q.0) ⊎ ((b.0 ≡ q.0) × (b.1 ≤ q.1))
-        → (a.0 < q.0) ⊎ ((a.0 ≡ q.0) × (a.1 ≤ q.1))
-    behind q (inl x) (inl y) = inl (omega (arith, x, y))
-    behind q (inl x) (inr y) = inl (let e = y.0 in omega (arith, x, e))
-    behind q (inr x) (inl y) = inl (let e = x.0 in omega (arith, e, y))
-    behind q (inr x) (inr y) = inr (x.0 ∙ y.0, (let c = x.1 in let d = y.1 in omega (arith, c, d)))
-
-    before : (q : Pair) → (q ≡ b) ⊎ InPairs q ps → (a.0 < q.0) ⊎ ((a.0 ≡ q.0) × (a.1 ≤ q.1))
-    before q (inl e) = subst (λ (z : Pair). (a.0 < z.0) ⊎ ((a.0 ≡ z.0) × (a.1 ≤ z.1))) (sym e) low
-    before q (inr i) = behind q low (up.0 q i)
+order_more a b ps low up = grind (arith, common_steps)
 
 -- the same before what is left of a list
 pub order_at : (a : Pair) (pairs : List Pair) (i : ℕ) → i < length pairs → (a.0 < (pair_at pairs i).0)

@@ -95,9 +95,8 @@ module _ (p : Problem) (wf : IsWellFormed p) (w stage : ℕ) (before : List (Lis
       → successor p l (pair_at (list_at lists j) index) r ≡ Some q → GivesPair p (stage, before) lists v q j index
   gives_at q j index lo hi lt e = grind (arith, gives, at_in)
 
-  pub given_at : (q : Pair) (j index : ℕ) → GivesPair p (stage, before) lists v q j index
-      → (from ≤ j) × (j < to) × (index < length (list_at lists j))
-      × (successor p l (pair_at (list_at lists j) index) r ≡ Some q)
+  pub given_at : (q : Pair) (j index : ℕ) → GivesPair p (stage, before) lists v q j index → (from ≤ j)
+      × (j < to) × (index < length (list_at lists j)) × (successor p l (pair_at (list_at lists j) index) r ≡ Some q)
   given_at q j index g =
       let x : IsSuccessor p stage (node_at before j) v = (g.rank, g.permitted, g.next) in
       let found = place_at p w stage before v from to range j g.within x in
@@ -114,20 +113,16 @@ module _ (p : Problem) (wf : IsWellFormed p) (w stage : ℕ) (before : List (Lis
 
   -- what is found is the first place and index that give the pair
   abbrev IsFirstToGive : Pair → ℕ × ℕ → Type 0
-  IsFirstToGive q at = GivesPair p (stage, before) lists v q at.0 at.1
-      × ((place i : ℕ) → (place < at.0) ⊎ ((place ≡ at.0) × (i < at.1)) → GivesPair p (stage, before) lists v q place i
-      → ⊥)
+  IsFirstToGive q at = GivesPair p (stage, before) lists v q at.0 at.1 × ((place i : ℕ)
+      → (place < at.0) ⊎ ((place ≡ at.0) × (i < at.1)) → GivesPair p (stage, before) lists v q place i → ⊥)
 
   pub first_to_give : (q : Pair) (found : Option (ℕ × ℕ)) (at : ℕ × ℕ)
       → MatchOption found ((i : ℕ) → from ≤ i → i < to → GivesNone p l r (list_at lists i) q)
       (IsFirstSource p l r lists from to q) → found ≡ Some at → IsFirstToGive q at
   first_to_give q None at none e = absurd (cc)
   first_to_give q (Some (place, i)) at (lo, hi, (within, lands, first), none) e =
-      subst (IsFirstToGive q) (same_Some (place, i) at e) (
-        gives_at q place i lo hi within lands,
-        λ n m below other.
-            let g = given_at q n m other in grind arith,
-      )
+      subst (IsFirstToGive q) (same_Some (place, i) at e)
+      (gives_at q place i lo hi within lands, λ n m below other. let g = given_at q n m other in grind arith)
 
   abbrev Lists : Node → Pair → Type 0
   Lists n q = (j : ℕ) × (j < length before) × (n ≡ (stage, node_at before j)) × InPairs q (list_at lists j)
@@ -152,14 +147,10 @@ module _ (p : Problem) (wf : IsWellFormed p) (w stage : ℕ) (before : List (Lis
   node_kept : (pairs : List Pair) → ((q : Pair) → InPairs q pairs → IsGivenIn p l r lists from to q)
       → ((q : Pair) → IsGivenIn p l r lists from to q → (o : Pair) × InPairs o pairs × NoWorse o q)
       → Kept (Attains p (suc stage) v) (λ q. InPairs q pairs)
-  node_kept pairs made enough =
-      kept_next Node (λ s u. (ranked p).is_open s u ≡ true) (first_at p) (next_from (ranked p))
-      (cost_at p) (Legal (ranked p).rules) (node_of p.k) (permits p) land latest (is_first_open p)
-      (next_later (ranked p)) (costs_rise p) range.laws.network
-      Lists (suc stage, v) (λ q. InPairs q pairs)
-      (λ e. never (ap (λ (n : Node). n.0) e))
-      (λ n s may at. source_kept n (less (ap (λ (m : Node). m.0) at)))
-      (λ q i.
+  node_kept pairs made enough = kept_next Node (λ s u. (ranked p).is_open s u ≡ true) (first_at p) (next_from
+      (ranked p)) (cost_at p) (Legal (ranked p).rules) (node_of p.k) (permits p) land latest (is_first_open p)
+      (next_later (ranked p)) (costs_rise p) range.laws.network Lists (suc stage, v) (λ q. InPairs q pairs)
+      (λ e. never (ap (λ (n : Node). n.0) e)) (λ n s may at. source_kept n (less (ap (λ (m : Node). m.0) at))) (λ q i.
       let g = made q i in
       let lt : g.0 < length before = let h = g.2 in omega (arith, h, range.within) in
       let x = gives g.0 g.1 g.2 g.3 q g.4 g.5 in (
@@ -196,18 +187,15 @@ module _ (p : Problem) (wf : IsWellFormed p) (w stage : ℕ) (before : List (Lis
             found.1,
             o,
             i,
-            sym (ap (λ (y : ℕ). successor p y o s) lead
-                ∙ ap (λ (y : ℕ). successor p l o y) same) ∙ e,
+            sym (ap (λ (y : ℕ). successor p y o s) lead ∙ ap (λ (y : ℕ). successor p l o y) same) ∙ e,
           )
 
   kept_pairs : (pairs : List Pair) → Kept (Attains p (suc stage) v) (λ q. InPairs q pairs)
       → Staircase pairs → ArePairsOf p (suc stage) v pairs
   kept_pairs pairs kept falling = record {
     undominated = λ q. (
-      kept_undominated (Attains p (suc stage) v) (λ (z : Pair). InPairs z pairs) kept
-          (staircase_apart pairs falling) q,
-      undominated_kept (Attains p (suc stage) v)
-          (λ (z : Pair). InPairs z pairs) kept q,
+      kept_undominated (Attains p (suc stage) v) (λ (z : Pair). InPairs z pairs) kept (staircase_apart pairs falling) q,
+      undominated_kept (Attains p (suc stage) v) (λ (z : Pair). InPairs z pairs) kept q,
     );
     covers = kept.covers;
     falling = falling;
@@ -218,8 +206,7 @@ module _ (p : Problem) (wf : IsWellFormed p) (w stage : ℕ) (before : List (Lis
       → ((q : Pair) → InPairs q sorted → IsGivenIn p l r lists from to q)
       → ((q : Pair) → IsGivenIn p l r lists from to q → InPairs q sorted)
       → ArePairsOf p (suc stage) v (sweep beyond_costs sorted)
-  swept_pairs sorted up in_days made all =
-      kept_pairs (sweep beyond_costs sorted)
+  swept_pairs sorted up in_days made all = kept_pairs (sweep beyond_costs sorted)
       (node_kept (sweep beyond_costs sorted) (λ q i. made q (sweep_subset beyond_costs sorted q i)) (λ q g.
       let i = all q g in
       elim (sweep_covers beyond_costs sorted up q i) [
@@ -267,8 +254,7 @@ module _ {p : Problem} {w stage : ℕ} {before : List (List ℤ)} {v : List ℤ}
     (range : Sources p w stage before v from to) where
   pub leader_within : (l : ℕ) → pos l ≡ pos stage +ℤ offset_at (node_at before from) (w - 1) → l ≤ length p.flights
   leader_within l is =
-      let r = leader_range p w stage before v from to range in
-      omega (arith, ints, is, r.0, r.1)
+      let r = leader_range p w stage before v from to range in omega (arith, ints, is, r.0, r.1)
 
   pub rank_within : (r : ℕ) → pos r ≡ pos (suc stage) +ℤ offset_at v (w - 1) → (1 ≤ r) × (r ≤ length p.flights)
   rank_within r is =

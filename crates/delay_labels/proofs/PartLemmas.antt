@@ -1,10 +1,10 @@
 -- Lists of pairs as they are stored, and one list more behind them.
+use Rattle.std.proofs.lemmas.Grind.{common_steps}
 use Rattle.std.proofs.Common.{rules, ◌≡◌, ℕ, zero, suc, ◌+◌, ◌-◌, ◌≤◌, List, [], ◌∷◌, ◌++◌, length, map, refl, sym}
 use Rattle.std.proofs.Common.{subst, arith}
 use Rattle.std.specs.Prelude.{slice_range, All, nat_lt}
-use Rattle.std.proofs.lemmas.Bool.{lt-ltb, le-ltb}
 use Rattle.std.proofs.Math.Seq.{drop-append-add}
-use Rattle.std.proofs.lemmas.List.{length-append, map-append, length-take, length-drop, drop-append-le, take-append-le}
+use Rattle.std.proofs.lemmas.List.{length-append, map-append, length-drop, drop-append-le, take-append-le}
 use Rattle.std.proofs.lemmas.List.{drop_at, take_all}
 use Rattle.std.proofs.lemmas.List.Elements.{All-take, All-drop, All-head, All-tail, All-nil, All-append, All-weaker}
 use Rattle.std.proofs.lemmas.List.Elements.{All-map}
@@ -29,37 +29,25 @@ part_grows pairs more a b le within = grind (arith, drop-append-le, take-append-
 lists_grow : (pairs more : List Pair) (parts : List (ℕ × ℕ)) → All (IsPart (length pairs)) parts
     → lists_of (pairs ++ more) parts ≡ lists_of pairs parts
 lists_grow pairs more [] all = refl
-lists_grow pairs more (x ∷ parts) all =
-    grind (
-      arith,
-      All-head,
-      part_grows,
-      All-tail,
-      lists_grow pairs more parts (All-tail (IsPart (length pairs)) x parts all),
-    )
+lists_grow pairs more (x ∷ parts) all = grind
+    (arith, All-head, part_grows, All-tail, lists_grow pairs more parts (All-tail (IsPart (length pairs)) x parts all))
 
 lists_append : (pairs : List Pair) (parts : List (ℕ × ℕ)) (x : ℕ × ℕ)
     → lists_of pairs (parts ++ x ∷ []) ≡ lists_of pairs parts ++ slice_range pairs x.0 x.1 ∷ []
-lists_append pairs [] x = refl
-lists_append pairs (y ∷ parts) x = grind (arith, lists_append pairs parts x)
+lists_append pairs parts x = grind (arith, common_steps)
 
 last_part : (pairs more : List Pair) → slice_range (pairs ++ more) (length pairs) (length (pairs ++ more)) ≡ more
 last_part pairs more = grind (arith, drop_at, take_all, length-append)
 
 -- one list more, behind the others
-lists_more : (pairs more : List Pair) (parts : List (ℕ × ℕ)) → All (IsPart (length pairs)) parts
-    → lists_of (pairs ++ more) (parts ++ (length pairs, length (pairs ++ more)) ∷ []) ≡ lists_of pairs parts
-    ++ more ∷ []
+lists_more : (pairs more : List Pair) (parts : List (ℕ × ℕ)) → All (IsPart (length pairs)) parts →
+    lists_of (pairs ++ more) (parts ++ (length pairs, length (pairs ++ more)) ∷ []) ≡ lists_of pairs parts ++ more ∷ []
 lists_more pairs more parts all = grind (arith, lists_append, lists_grow, last_part)
 
 -- a list has a pair where it ends behind its beginning
 pub part_has_some : (pairs : List Pair) (x : ℕ × ℕ) → IsPart (length pairs) x
     → nat_lt x.0 x.1 ≡ has_some (slice_range pairs x.0 x.1)
-part_has_some pairs x is = grind (arith, go, length-take, length-drop)
-  where
-    go : (l : List Pair) → length l ≡ x.1 - x.0 → nat_lt x.0 x.1 ≡ has_some l
-    go [] e = le-ltb x.0 x.1 (omega arith)
-    go (q ∷ qs) e = lt-ltb x.0 x.1 (omega arith)
+part_has_some pairs x is = grind (arith, common_steps)
 
 -- ---- one list more, as it is stored
 

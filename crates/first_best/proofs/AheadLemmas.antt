@@ -71,9 +71,8 @@ module _ (p : Problem) (v : ℕ) (budget : Option ℕ) (held : Option HeldProble
         let c = a.completed done (omega (arith, some)) (omega arith) in
         inr (
           omega (arith, is, lt, some),
-          subst (λ (s : StageAhead). AreCompleted p v budget
-              (stage + 1) s.nodes s.lists) (sym e)
-              (subst (λ (m : ℕ). AreCompleted p v budget m (at stages done).nodes (at stages done).lists) n c),
+          subst (λ (s : StageAhead). AreCompleted p v budget (stage + 1) s.nodes s.lists)
+              (sym e) (subst (λ (m : ℕ). AreCompleted p v budget m (at stages done).nodes (at stages done).lists) n c),
         )
   ]
 

@@ -94,8 +94,7 @@ module _ (p : Problem) (budget : ℕ) (before : EarlyNode) (cost : ℕ) (nodes :
       let last = c.last in
       let most = few c.place c.within in (
         elim u.known [
-          | inl none ↦ absurd (let z : least.0 ≡ most_waiting + 1 =
-              ap (λ q. q.0) none in omega arith)
+          | inl none ↦ absurd (let z : least.0 ≡ most_waiting + 1 = ap (λ q. q.0) none in omega arith)
           | inr known ↦ known
         ],
         omega arith,
@@ -132,8 +131,7 @@ module _ (p : Problem) (wf : IsWellFormed p) (v : ℕ) (held : Option HeldProble
 
   choice_landed : (xs : List Landing) (r t : ℕ) → LandedIn (ranked p) xs → CanChoose p v (IsCompletingPair p v) xs r t
       → LandedIn (ranked p) ((r, t) ∷ xs)
-  choice_landed xs r t landed c =
-      (let f = (is_first_open p).found r (next_from (ranked p) _ _ r) t c.lands in
+  choice_landed xs r t landed c = (let f = (is_first_open p).found r (next_from (ranked p) _ _ r) t c.lands in
       (f.0, f.1, landed))
 
   pub choices_landed : (xs : List Landing) → AreLeastChoices p v (IsCompletingPair p v) xs → LandedIn (ranked p) xs
@@ -214,8 +212,7 @@ module _ (p : Problem) (wf : IsWellFormed p) (v : ℕ) (held : Option HeldProble
     choices = tt;
     long = refl;
     of_node = record {
-      placed =
-          λ x. (λ h. absurd (let z : bit_at 0 x ≡ 0 = bit_at-zero x in omega (arith, h, z)), λ i. absurd i);
+      placed = λ x. (λ h. absurd (let z : bit_at 0 x ≡ 0 = bit_at-zero x in omega (arith, h, z)), λ i. absurd i);
       last = refl;
     };
     latest = refl;
@@ -315,8 +312,7 @@ module _ (p : Problem) (wf : IsWellFormed p) (v : ℕ) (held : Option HeldProble
             o.seconds (suc i) q ∙ sym (list_of_at _ _ (suc i) q)
 
         same : schedule ≡ seconds_by_rank p o.landings
-        same = ext_get_or 0 schedule (seconds_by_rank p o.landings) (o.room
-            ∙ sym (list_of_long _ _)) at
+        same = ext_get_or 0 schedule (seconds_by_rank p o.landings) (o.room ∙ sym (list_of_long _ _)) at
 
 -- ---- one node
 
@@ -327,13 +323,8 @@ module _ (p : Problem) (budget : ℕ) (before : EarlyNode) (cost : ℕ) (after :
 
   pub never_in_time : IsLeastOf (IsCostFrom pairs second) None → (t : ℕ)
       → IsAffordable p budget before cost after pairs t → ⊥
-  never_in_time none t a = none a.pair.1 (
-    a.pair,
-    a.listed,
-    (let e = same_second t a in let l =
-        a.in_time in omega (arith, e, l)),
-    refl,
-  )
+  never_in_time none t a = none a.pair.1
+      (a.pair, a.listed, (let e = same_second t a in let l = a.in_time in omega (arith, e, l)), refl)
 
   pub too_dear : (rest : ℕ) → IsLeastOf (IsCostFrom pairs second) (Some rest) → budget < cost
       + cost_at p after.last second + rest → (t : ℕ) → IsAffordable p budget before cost after pairs t → ⊥

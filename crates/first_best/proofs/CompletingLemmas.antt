@@ -197,8 +197,7 @@ module _ (p : Problem) (wf : IsWellFormed p) (v : ℕ) (budget : Option ℕ) (st
       }
         where
           each : KeptCompleting (IsCompletingPair p v rs) (IsSuccessorPair p v (IsCompletingPair p v) rs)
-          each =
-              successor_pairs p (sound_of p wf) v rs legal (IsSuccessorPair p v (IsCompletingPair p v) rs)
+          each = successor_pairs p (sound_of p wf) v rs legal (IsSuccessorPair p v (IsCompletingPair p v) rs)
               (IsCompletingPair p v) (omega arith) (λ r b l can. all_kept (IsCompletingPair p v (r ∷ rs)))
               (record { are = λ q s. s; cover = λ q s. (q, s, (le_refl q.0, le_refl q.1)) })
 

@@ -117,12 +117,8 @@ module _ (p : Problem) (held : Option HeldProblem) (stage : ℕ) (number : (stag
       let low : (node_at nodes j).earliest ≤ second_of lists i = rw there at (low_at i within) in
       let first = first_least _ (h.costs.pairs i within).falling q.0 q.1.has in
       let is = m.earliest j lt in
-      let least_is = q.2 in (
-        i,
-        within,
-        at_stage (windows.node_at list i) _ (rw there at (window_told i within)),
-        omega arith,
-      )
+      let least_is = q.2 in
+      (i, within, at_stage (windows.node_at list i) _ (rw there at (window_told i within)), omega arith)
 
   pub all_made : AreGathered (stage_in held stage) lists (length list) nodes put.places
   all_made = record {
@@ -158,11 +154,8 @@ module _ (p : Problem) (net : network.IsWindowNetwork p) (tell : TellTheirRanks 
       λ b. (let a = (w.placed x).0 b in
           (tell rs x legal a.0).0 (subst (λ (n : network.Node). IsPlaced n.1 (pos n.0) (pos x)) (sym at) a.1)),
       λ i. (let one = (in_from_one (ranked p).rules x rs (legal_each_fits (ranked p).rules rs legal) i).0 in
-          (w.placed x).1 (
-            one,
-            subst (λ (n : network.Node). IsPlaced n.1 (pos n.0) (pos x)) at
-                ((tell rs x legal one).1 i),
-          )),
+          (w.placed x).1
+          (one, subst (λ (n : network.Node). IsPlaced n.1 (pos n.0) (pos x)) at ((tell rs x legal one).1 i))),
     );
     last = sym (net.newest_is rs legal) ∙ ap network.latest at ∙ sym w.last;
   }

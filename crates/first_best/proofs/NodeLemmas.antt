@@ -61,9 +61,8 @@ node_one rs os node one a = record {
 }
 
 -- a node can be landed by a second exactly where its earliest is no later
-module _ (p : Problem) (stage : ℕ) (nodes : List EarlyNode) (are : AreNodesOf p stage nodes)
-    (j : ℕ) (lt : j < length nodes) (rs : List ℕ) (long : length rs ≡ stage)
-    (of : IsPrefixOf rs (node_at nodes j)) where
+module _ (p : Problem) (stage : ℕ) (nodes : List EarlyNode) (are : AreNodesOf p stage nodes) (j : ℕ)
+    (lt : j < length nodes) (rs : List ℕ) (long : length rs ≡ stage) (of : IsPrefixOf rs (node_at nodes j)) where
   pub lands_by : (b : ℕ) → (node_at nodes j).earliest ≤ b → CanLandBy p rs b
   lands_by b le =
       let r = are.reached j lt in

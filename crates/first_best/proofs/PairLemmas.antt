@@ -53,18 +53,14 @@ each_pair P xs x old new q i = elim (in_append q xs (x ∷ []) i) [
 pub falls_more : (xs : List Pair) (q : Pair) → Falls xs → ((o : Pair) → InPairs o xs → (q.0 < o.0) × (q.1 < o.1))
     → Falls (xs ++ q ∷ [])
 falls_more [] q f h = (λ o i. absurd i, tt)
-falls_more (x ∷ xs) q f h = (
-  each_pair (λ o. (o.0 < x.0) × (o.1 < x.1)) xs q f.0 (h x (inl refl)),
-  falls_more xs q f.1 (λ o i. h o (inr i)),
-)
+falls_more (x ∷ xs) q f h =
+    (each_pair (λ o. (o.0 < x.0) × (o.1 < x.1)) xs q f.0 (h x (inl refl)), falls_more xs q f.1 (λ o i. h o (inr i)))
 
 pub rises_more : (xs : List Pair) (q : Pair) → Rises xs → ((o : Pair) → InPairs o xs → (o.0 < q.0) × (o.1 < q.1))
     → Rises (xs ++ q ∷ [])
 rises_more [] q f h = (λ o i. absurd i, tt)
-rises_more (x ∷ xs) q f h = (
-  each_pair (λ o. (x.0 < o.0) × (x.1 < o.1)) xs q f.0 (h x (inl refl)),
-  rises_more xs q f.1 (λ o i. h o (inr i)),
-)
+rises_more (x ∷ xs) q f h =
+    (each_pair (λ o. (x.0 < o.0) × (x.1 < o.1)) xs q f.0 (h x (inl refl)), rises_more xs q f.1 (λ o i. h o (inr i)))
 
 reverse_front : (x : Pair) (xs : List Pair) → reverse (x ∷ xs) ≡ reverse xs ++ x ∷ []
 reverse_front x xs = reverse-append (x ∷ []) xs
@@ -131,8 +127,7 @@ module _ {A : Type 0} (d : A) (W : A → ℕ → Type 0) (each : (x : A) → (o 
 
   pub least_of_list : (xs : List A) → IsLeastOf (IsAtSome xs) (least_at xs)
   least_of_list [] = λ c n. (let lt = n.1 in absurd (omega arith))
-  least_of_list (x ∷ xs) =
-      rw (reduce_min (each x).0 (filter_map (λ y. (each y).0) xs))
+  least_of_list (x ∷ xs) = rw (reduce_min (each x).0 (filter_map (λ y. (each y).0) xs))
       (least_same (λ c. W x c ⊎ IsAtSome xs c) (IsAtSome (x ∷ xs)) (earlier_of (each x).0 (least_at xs))
       (λ c. (to c, from c)) (least_either (W x) (IsAtSome xs) (each x).0 (least_at xs) (each x).1 (least_of_list xs)))
     where
@@ -171,8 +166,7 @@ module _ (second : ℕ) where
       to c (i, lt, h) = (pair_at xs i, at_in xs i _ lt refl, h.0, h.1)
 
       from : (c : ℕ) → IsCostFrom xs second c → IsAt c
-      from c (q, listed, late, is) =
-          (let a = in_at q xs listed in (a.0, a.1, rw a.2 (late, is)))
+      from c (q, listed, late, is) = (let a = in_at q xs listed in (a.0, a.1, rw a.2 (late, is)))
 
 -- ---- by places
 
@@ -191,8 +185,7 @@ last_most xs r q i =
     elim (cases_eq a.0 _) [
       | inl e ↦ (let same : (pair_at xs a.0).0 ≡ (pair_at xs (length xs - 1)).0 =
           ap (λ n. (pair_at xs n).0) e in omega arith)
-      | inr ne ↦ (let less = (rises_at xs r a.0 (length xs - 1) (omega arith)
-          (omega arith)).0 in omega arith)
+      | inr ne ↦ (let less = (rises_at xs r a.0 (length xs - 1) (omega arith) (omega arith)).0 in omega arith)
     ]
 
 -- the first pair at or after a second is the cheapest of those

@@ -13,9 +13,8 @@ use Rattle.first_best.specs.Completing.{AreFalling, ArePairsOf, IsWithinBudget, 
 use Rattle.first_best.proofs.PairLemmas.{each_pair, falls_more, falls_rises, in_reversed, reversed_in}
 use Rattle.first_best.proofs.UseLemmas.{room_below}
 
-module _ (p : Problem) (v : ℕ) (budget : Option ℕ) (stage : ℕ) (node : EarlyNode) (next : StageAhead)
-    (limit : ℕ) (limits : (cost : ℕ) → cost < 4294967296 → IsWithinBudget budget node.cheapest cost
-    → cost < limit) where
+module _ (p : Problem) (v : ℕ) (budget : Option ℕ) (stage : ℕ) (node : EarlyNode) (next : StageAhead) (limit : ℕ)
+    (limits : (cost : ℕ) → cost < 4294967296 → IsWithinBudget budget node.cheapest cost → cost < limit) where
   abbrev pub Is : Pair → Type 0
   Is q = IsPairOf p v stage node next q
 

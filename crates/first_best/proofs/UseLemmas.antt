@@ -35,8 +35,7 @@ all_useful p budget rs C Keeps k = record { completes = k.completes; covers = λ
 module _ (p : Problem) (sound : SoundProblem (ranked p)) (rs : List ℕ) (r : ℕ) (more : IsLegal p (r ∷ rs)) where
   -- a rank that may follow a prefix may follow each prefix of its node
   follows_each : (os : List ℕ) → IsLegal p rs → IsLegal p os → AreOneNode os rs → IsLegal p (r ∷ os)
-  follows_each os legal other one =
-      (net p sound).grows r os other (subst (λ w. PatternPermits (ranked p).rules w r)
+  follows_each os legal other one = (net p sound).grows r os other (subst (λ w. PatternPermits (ranked p).rules w r)
       (sym (one_pattern p sound os rs one)) ((net p sound).shrinks r rs more).1)
 
   one_longer : (os : List ℕ) → AreOneNode os rs → AreOneNode (r ∷ os) (r ∷ rs)

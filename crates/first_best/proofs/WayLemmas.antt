@@ -70,13 +70,8 @@ module _ (p : Problem) (node after : EarlyNode) (pairs : List Pair) (second : �
     same_landing c w = same_Some w.lands_at landing (sym w.lands ∙ lands)
 
     pub too_late : IsLeastOf (IsCostFrom pairs landing) None → IsLeastOf (IsWayTo p node after pairs second) None
-    too_late none c w = none w.pair.1 (
-      w.pair,
-      w.listed,
-      (let e = same_landing c w in let l =
-          w.in_time in omega (arith, e, l)),
-      refl,
-    )
+    too_late none c w = none w.pair.1
+        (w.pair, w.listed, (let e = same_landing c w in let l = w.in_time in omega (arith, e, l)), refl)
 
     pub way_cost : (rest : ℕ) → IsLeastOf (IsCostFrom pairs landing) (Some rest)
         → IsLeastOf (IsWayTo p node after pairs second) (Some (cost_at p after.last landing + rest))
@@ -129,10 +124,8 @@ module _ (p : Problem) (stage : ℕ) (node : EarlyNode) (next : StageAhead) (way
       (IsEnd p stage node next second) least (λ c. (to c, from c)) l
     where
       to : (c : ℕ) → (i : ℕ) × (i < length ways) × IsWayAt i c → IsEnd p stage node next second c
-      to c (i, lt, w) = inr (
-        short,
-        record { place = slice_index_or ways i 0; within = are.within i lt; leads = are.lead i lt; way = w },
-      )
+      to c (i, lt, w) = inr
+          (short, record { place = slice_index_or ways i 0; within = are.within i lt; leads = are.lead i lt; way = w })
 
       from : (c : ℕ) → IsEnd p stage node next second c → (i : ℕ) × (i < length ways) × IsWayAt i c
       from c (inl h) = absurd (let e = h.0 in omega arith)
@@ -141,13 +134,11 @@ module _ (p : Problem) (stage : ℕ) (node : EarlyNode) (next : StageAhead) (way
           let a = are.every w.place w.within w.leads in (a.0, a.1, rw a.2 w.way)
 
 -- a pair of the node at an open second that the value allows
-pub end_pair : (p : Problem) (v stage : ℕ) (node : EarlyNode) (next : StageAhead) (second : ℕ)
-    → (ranked p).is_open node.last second ≡ true → node.earliest ≤ second → is_low p v second ≡ true
-    → (least : Option ℕ) → IsLeastOf (IsEnd p stage node next second) least
-    → IsLeastOf (λ c. IsPairOf p v stage node next (second, c)) least
-end_pair p v stage node next second o r l least h = least_same (IsEnd p stage node next second)
-    (λ c. IsPairOf p v stage node next (second, c)) least
-    (λ c. (λ e. record { opened = o; reached = r; low = l; end = e }, λ q. q.end)) h
+pub end_pair : (p : Problem) (v stage : ℕ) (node : EarlyNode) (next : StageAhead) (second : ℕ) →
+    (ranked p).is_open node.last second ≡ true → node.earliest ≤ second → is_low p v second ≡ true → (least : Option ℕ)
+    → IsLeastOf (IsEnd p stage node next second) least → IsLeastOf (λ c. IsPairOf p v stage node next (second, c)) least
+end_pair p v stage node next second o r l least h = least_same (IsEnd p stage node next second) (λ c. IsPairOf p v
+    stage node next (second, c)) least (λ c. (λ e. record { opened = o; reached = r; low = l; end = e }, λ q. q.end)) h
 
 -- ---- how late a pair is
 

@@ -1,6 +1,6 @@
 -- Callsigns that differ, by the test of their bytes and as such; and one more name or flight behind others.
-use Rattle.std.proofs.Common.{◌≡◌, ◌≢◌, ℕ, ◌<◌, List, length, get_or, true, false, ◌+◌, ◌++◌, ◌∷◌, [], arith, inl, inr}
-use Rattle.std.proofs.Common.{sym, refl, length-append, Result, Ok, Err}
+use Rattle.std.proofs.Common.{rules, ◌≡◌, ◌≢◌, ℕ, ◌<◌, List, length, get_or, true, false, ◌+◌, ◌++◌, ◌∷◌, [], arith}
+use Rattle.std.proofs.Common.{refl, length-append, Result, Ok, Err}
 use Rattle.std.specs.Prelude.{All, bytes_eq}
 use Rattle.std.specs.List.{list_any}
 use Rattle.std.proofs.lemmas.Bool.{cases_Bool}
@@ -12,27 +12,19 @@ use Rattle.arrivals.specs.Flights.{AreOthers, IsArrival, AreArrivals}
 use Rattle.cps_base.specs.Limits.{most_flights}
 use Rattle.flight_file.specs.After.{name_in, names_from}
 use Rattle.flight_file.specs.declared.fault.AfterCause.{AfterCause}
-use Rattle.cps_base.specs.Text.{is_callsign}
 use Rattle.flight_file.specs.Reading.{has_callsign}
 use Rattle.arrivals.specs.declared.flight.Flight.{Flight}
 use Rattle.std.proofs.lemmas.Slice.Eq.{bytes_eq-Decides}
 
 pub unlike : (a b : List ℕ) → a ≢ b → bytes_eq a b ≡ false
-unlike a b other =
-    elim (cases_Bool (bytes_eq a b)) [
-      | inl same ↦ absurd (other ((bytes_eq-Decides a b).0 same))
-      | inr differ ↦ differ
-    ]
+unlike a b other = grind (arith, cases_Bool, bytes_eq, bytes_eq-Decides)
 
 pub unlike_text : (a b : List ℕ) → bytes_eq a b ≡ false → a ≢ b
-unlike_text a b differ same = let alike : bytes_eq a b ≡ true = (bytes_eq-Decides a b).1 same in absurd (cc)
+unlike_text a b differ same = search rules
 
 pub none_alike : (name : List ℕ) (earlier : List (List ℕ)) → list_any (bytes_eq name) earlier ≡ false
     → All (λ e. e ≢ name) earlier
-none_alike name earlier none k d below same =
-    let alike : bytes_eq name (get_or earlier k d) ≡ true = (bytes_eq-Decides name (get_or earlier k d)).1 (sym same) in
-    let some : list_any (bytes_eq name) earlier ≡ true = list_any_at (bytes_eq name) earlier k d below alike in
-    absurd (cc)
+none_alike name earlier none k d below same = grind (arith, bytes_eq, bytes_eq-Decides, list_any, list_any_at)
 
 -- one predecessor more
 pub others_more : (own : List ℕ) (names : List (List ℕ)) (name : List ℕ) → AreOthers own names
@@ -45,20 +37,7 @@ others_more own names name others other new = record {
 -- a part that names a predecessor names another flight, and none of those before
 name_new : (own : List ℕ) (i : ℕ) (before : List (List ℕ)) (text name : List ℕ) → name_in own i before text ≡ Ok name
     → (name ≢ own) × All (λ earlier. earlier ≢ name) before
-name_new own i before text name e =
-    elim (cases_Bool (is_callsign text)) [
-      | inr none ↦ absurd (cc (rw none at e))
-      | inl callsign ↦ elim (cases_Bool (bytes_eq text own)) [
-        | inl same ↦ absurd (cc (rw (callsign, same) at e))
-        | inr other ↦ elim (cases_Bool (list_any (bytes_eq text) before)) [
-          | inl again ↦ absurd (cc (rw (callsign, other, again) at e))
-          | inr new ↦
-              let given : Ok text ≡ Ok name = rw (callsign, other, new) at e in
-              let is : text ≡ name = cc in
-              rw (← is) (unlike_text text own other, none_alike text before new)
-        ]
-      ]
-    ]
+name_new own i before text name e = grind (arith, cases_Bool, bytes_eq, list_any, unlike_text, none_alike)
 
 -- the predecessors that parts name are others
 pub names_given : (own : List ℕ) (i : ℕ) (before parts names : List (List ℕ)) → names_from own i before parts ≡ Ok names

@@ -1,12 +1,11 @@
 -- What the parts of a field are, one after the other.
-use Rattle.std.proofs.Common.{◌≡◌, ℕ, ◌+◌, ◌<◌, List, [], ◌∷◌, length, Ok, Err, Result, ◌++◌, append_assoc, arith, ap}
-use Rattle.std.proofs.Common.{sym, refl}
+use Rattle.std.proofs.Common.{◌≡◌, ℕ, ◌+◌, ◌<◌, List, [], ◌∷◌, length, Ok, Err, Result, ◌++◌, append_assoc, arith}
+use Rattle.std.proofs.lemmas.Grind.{common_steps}
 use Rattle.cps_base.specs.Answers.{◌>>=◌}
 use Rattle.flight_file.specs.Windows.{window_by, window_in, windows_from}
 use Rattle.std.specs.Prelude.{IsTrue}
 use Rattle.std.specs.List.{list_all}
 use Rattle.landing_windows.specs.Windows.{is_in_days}
-use Rattle.std.proofs.lemmas.Bool.{and_parts}
 use Rattle.flight_file.specs.declared.fault.WindowsCause.TheVariants.{Shape}
 
 -- what was read before, and then the rest
@@ -16,14 +15,12 @@ with_front front (Err e) = Err e
 
 -- three parts or more are no window
 pub too_many : (i : ℕ) (a b : List ℕ) (ps : List (List ℕ)) → 0 < length ps → window_by i (a ∷ b ∷ ps) ≡ Err (Shape i)
-too_many i a b [] h = absurd (omega (arith, h))
-too_many i a b (p ∷ ps) h = refl
+too_many i a b ps h = grind arith
 
 -- one more window, a part that is none, and the end
 front_more : {X E : Type 0} (front : List X) (x : X) (r : Result (List X) E)
     → with_front front (r >>= (λ xs. Ok (x ∷ xs))) ≡ with_front (front ++ x ∷ []) r
-front_more front x (Ok xs) = ap Ok (sym (append_assoc front (x ∷ []) xs))
-front_more front x (Err e) = refl
+front_more front x r = grind (arith, append_assoc)
 
 pub window_more : (i : ℕ) (front : List (ℕ × ℕ)) (p : List ℕ) (ps : List (List ℕ)) (w : ℕ × ℕ)
     → window_in i p ≡ Ok w → with_front front (windows_from i (p ∷ ps)) ≡ with_front (front ++ w ∷ [])
@@ -34,7 +31,4 @@ window_more i front p ps w e = rw e (front_more front w (windows_from (i + 1) ps
 -- one window more of the two days
 pub days_more : (front : List (ℕ × ℕ)) (w : ℕ × ℕ) → IsTrue (list_all is_in_days front) → IsTrue (is_in_days w)
     → IsTrue (list_all is_in_days (front ++ w ∷ []))
-days_more [] w h here = rw here refl
-days_more (v ∷ front) w h here =
-    let both = and_parts (is_in_days v) (list_all is_in_days front) h in
-    rw (both.0, days_more front w both.1 here) refl
+days_more front w h here = grind (arith, common_steps)

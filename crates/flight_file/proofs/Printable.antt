@@ -1,10 +1,9 @@
 -- Flights that a file can give, one by one: each keeps what its types keep, and its callsign is new.
-use Rattle.std.proofs.Common.{◌≡◌, ◌≢◌, ℕ, suc, ◌≤◌, List, [], ◌∷◌, ◌++◌, true, false, length, Ok, sym, arith}
-use Rattle.std.proofs.Common.{append_assoc, length-append}
+use Rattle.std.proofs.Common.{◌≡◌, ◌≢◌, ℕ, suc, ◌≤◌, List, [], ◌∷◌, ◌++◌, true, false, length, Ok, sym}
+use Rattle.std.proofs.Common.{arith, append_assoc, length-append}
+use Rattle.std.proofs.lemmas.Grind.{common_steps}
 use Rattle.std.specs.Prelude.{⊤, All, AllPairs, bytes_eq}
 use Rattle.std.specs.List.{list_any}
-use Rattle.std.proofs.Math.ListN.{get_or-append}
-use Rattle.std.proofs.Math.Seq.{get_or-append_seam}
 use Rattle.std.proofs.lemmas.List.Folds.{list_any_none}
 use Rattle.cps_base.specs.Limits.{most_predecessors}
 use Rattle.cps_base.specs.Text.{is_callsign}
@@ -52,7 +51,7 @@ apart : {X : Type 0} (key : X → List ℕ) (before : List X) (x : X) (xs : List
     → AllPairs (λ a b. key a ≢ key b) (before ++ x ∷ xs) → All (λ b. key b ≢ key x) before
 apart key before x xs pairs k d below =
     let differ = pairs k (length before) d below (omega (arith, length-append before (x ∷ xs))) in
-    rw (get_or-append before (x ∷ xs) d k below, get_or-append_seam before x xs d) at differ
+    grind (arith, common_steps)
 
 new_names : (own : List ℕ) (before names : List (List ℕ)) → AreCallsigns names → All (λ name. name ≢ own) names
     → AllPairs (λ name later. name ≢ later) (before ++ names) → AreNewNames own before names
@@ -69,15 +68,7 @@ new_names own before (n ∷ names) calls differ pairs = (
 )
 
 printable : (f : Flight) → IsArrival f → IsKept f → IsPrintable f
-printable f can kept = record {
-  callsign = kept.callsign;
-  eta = can.eta;
-  weight = can.weight;
-  windows = kept.windows;
-  in_days = in_days f.windows kept.good.spans;
-  after = new_names f.callsign [] f.after kept.names can.after.other can.after.once;
-  few_after = kept.few;
-}
+printable f can kept = grind (arith, in_days, new_names)
 
 all_printable : (before flights : List Flight) → All IsArrival flights → AreKept flights
     → AllPairs (λ f later. f.callsign ≢ later.callsign) (before ++ flights) → ArePrintable before flights

@@ -1,13 +1,10 @@
 -- The plain spelling of flights reads as these flights.
-use Rattle.std.proofs.Common.{◌≡◌, ◌+◌, ◌<◌, ◌≤◌, List, [], ◌∷◌, ◌++◌, true, false, length, Ok, refl, sym, ap, ◌∙◌}
-use Rattle.std.proofs.Common.{arith, append_assoc, length-append}
+use Rattle.std.proofs.Common.{◌≡◌, ◌+◌, ◌<◌, ◌≤◌, List, [], ◌∷◌, ◌++◌, true, false, length, Ok, refl, sym, ap}
+use Rattle.std.proofs.Common.{◌∙◌, arith, append_assoc, length-append}
 use Rattle.std.specs.Prelude.{map, decimal, nat_le}
-use Rattle.std.proofs.lemmas.Bool.Decides.{nat_tests}
-use Rattle.std.proofs.lemmas.Grind.{common_steps}
 use Rattle.std.proofs.lemmas.List.{append-nil}
 use Rattle.cps_base.specs.Limits.{most_flights}
 use Rattle.csv.specs.Reading.{strip_bom}
-use Rattle.landing_rules.specs.Rules.{last_second}
 use Rattle.wake_table.specs.Letters.{letter}
 use Rattle.csv_records.specs.Rows.{Fields, records_of}
 use Rattle.csv_records.specs.Plain.{plain_text, IsPlainRow, ArePlainRows}
@@ -26,18 +23,7 @@ use Rattle.flight_file.proofs.PrintedFields.{high_callsign}
 flight_read : (fs : List Flight) (f : Flight) → IsPrintable f → has_callsign fs f.callsign ≡ false
     → length fs < most_flights → flight_in fs (flight_fields f) ≡ Ok f
 unfolding flight_in flight_by
-flight_read fs f h other room =
-    let count : nat_le most_flights (length fs) ≡ false = grind (arith, nat_tests, common_steps) in
-    rw (
-      h.callsign,
-      category_read f.category,
-      number_read f.eta 0 last_second (omega (arith, h.eta)) (omega arith) h.eta,
-      number_read f.weight 1 100 (omega (arith, h.weight.1)) h.weight.0 h.weight.1,
-      windows_text_read f.windows h.windows h.in_days,
-      names_text_read f.callsign f.after h.after h.few_after,
-      other,
-      count,
-    ) refl
+flight_read fs f h other room = grind (arith, nat_le, category_read, number_read, windows_text_read, names_text_read)
 
 -- the records behind the header
 rows_read : (fs gs : List Flight) → ArePrintable fs gs → length fs + length gs ≤ most_flights
@@ -45,8 +31,11 @@ rows_read : (fs gs : List Flight) → ArePrintable fs gs → length fs + length 
 unfolding flights_in
 rows_read fs [] h room = ap Ok (sym (append-nil fs))
 rows_read fs (g ∷ gs) h room =
-    let more = rows_read (fs ++ g ∷ []) gs h.2 (omega (arith, room, length-append fs (g ∷ []))) in
-    rw (flight_read fs g h.0 h.1 (omega arith)) (more ∙ ap Ok (append_assoc fs (g ∷ []) gs))
+    rw (flight_read fs g h.0 h.1 (omega arith)) ((rows_read (fs ++ g ∷ []) gs h.2 (omega (
+      arith,
+      room,
+      length-append fs (g ∷ []),
+    ))) ∙ ap Ok (append_assoc fs (g ∷ []) gs))
 
 row_plain : (f : Flight) → IsPrintable f → IsPlainRow (flight_fields f)
 row_plain f h = (

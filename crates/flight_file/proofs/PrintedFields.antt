@@ -1,11 +1,11 @@
 -- Each printed field reads as what was printed.
-use Rattle.std.proofs.Common.{◌≡◌, ℕ, suc, ◌+◌, ◌<◌, ◌≤◌, List, [], ◌∷◌, ◌++◌, true, false, length, Ok, Err, Some}
-use Rattle.std.proofs.Common.{refl, sym, ap, ◌∙◌, arith, rules, append_assoc, length-append, inl, inr}
+use Rattle.std.proofs.Common.{◌≡◌, ℕ, ◌+◌, ◌<◌, ◌≤◌, List, [], ◌∷◌, ◌++◌, true, false, length, Ok, Some}
+use Rattle.std.proofs.Common.{refl, sym, ap, arith, rules, append_assoc, length-append}
 use Rattle.std.specs.Prelude.{◌==◌, ◌^◌, map, decimal, nat_lt}
 use Rattle.std.specs.List.{join_with_byte, list_all}
 use Rattle.std.specs.Char.{is_ascii_digit}
 use Rattle.std.specs.Str.Parse.{digits_value}
-use Rattle.std.proofs.lemmas.Bool.{ne_eqb, cases_Bool, and_parts}
+use Rattle.std.proofs.lemmas.Bool.{ne_eqb, and_parts}
 use Rattle.std.proofs.lemmas.Bool.Decides.{nat_tests}
 use Rattle.std.proofs.lemmas.Grind.{common_steps}
 use Rattle.std.proofs.lemmas.List.{append-nil}
@@ -15,10 +15,8 @@ use Rattle.cps_base.specs.Text.{is_callsign, is_callsign_byte}
 use Rattle.cps_base.specs.Number.{number_within}
 use Rattle.landing_rules.specs.Rules.{last_second}
 use Rattle.wake_table.specs.declared.category.Category.{Category}
-use Rattle.wake_table.specs.declared.category.Category.TheVariants.{A}
 use Rattle.wake_table.specs.Letters.{letter, category_of}
 use Rattle.landing_windows.specs.Windows.{windows_of}
-use Rattle.landing_windows.specs.declared.windows.WindowFault.TheVariants.{TooMany}
 use Rattle.texts.specs.Parts.{parts}
 use Rattle.texts.specs.shared.Printed.{is_numeral}
 use Rattle.texts.specs.shared.Joins.{IsWithout, AreWithout, IsWithout-append, parts-before, parts-one, parts-join}
@@ -39,10 +37,10 @@ pub decimal_digits : (n : ℕ) → n < 2 ^ 64 → AreDigits (decimal n)
 decimal_digits n h = digits_decimal own n h
 
 digit_low : (b : ℕ) → is_ascii_digit b ≡ true → 48 ≤ b
-digit_low b e = grind (arith, nat_tests, common_steps)
+digit_low b e = grind (arith, common_steps)
 
 digit_top : (b : ℕ) → is_ascii_digit b ≡ true → b ≤ 57
-digit_top b e = grind (arith, nat_tests, common_steps)
+digit_top b e = grind (arith, common_steps)
 
 pub high_digits : (ds : List ℕ) → AreDigits ds → AreHigh ds
 high_digits [] h = tt
@@ -64,33 +62,22 @@ digits_without_top mark (d ∷ ds) m h =
 
 pub number_read : (n least most : ℕ) → n < 2 ^ 64 → least ≤ n → n ≤ most → number_within (decimal n) least most ≡ Ok n
 unfolding number_within
-number_read n least most h low top =
-    let e : digits_value 10 (decimal n) ≡ n = digits_value-decimal own n h in
-    rw (is_numeral n h, e) (grind (arith, nat_tests, common_steps))
+number_read n least most h low top = grind (arith, digits_value, decimal, digits_value-decimal, own, is_numeral)
 
 pub category_read : (c : Category) → category_of (letter c ∷ []) ≡ Some c
-category_read A = refl
-category_read c = refl
+category_read c = grind arith
 
 pub high_letter : (c : Category) → 45 ≤ letter c
-high_letter A = omega arith
-high_letter c = omega arith
+high_letter c = grind arith
 
 -- ---- windows
 
 second_read : (i n : ℕ) → n ≤ last_second → second_in i (decimal n) ≡ Ok n
-second_read i n h = rw (number_read n 0 last_second (omega arith) (omega arith) h) refl
+second_read i n h = grind (arith, number_read)
 
 window_read : (i : ℕ) (w : ℕ × ℕ) → w.0 ≤ last_second → w.1 ≤ last_second → window_in i (window_text w) ≡ Ok w
 unfolding window_in
-window_read i w a b =
-    let first : AreDigits (decimal w.0) = decimal_digits w.0 (omega arith) in
-    let last : AreDigits (decimal w.1) = decimal_digits w.1 (omega arith) in
-    let cut : parts 45 (window_text w) ≡ decimal w.0 ∷ decimal w.1 ∷ [] =
-    parts-before 45 (decimal w.0) (decimal w.1) (digits_without 45 (decimal w.0) (omega arith) first) refl
-    ∙ ap (λ (t : List (List ℕ)). decimal w.0 ∷ t)
-    (parts-one 45 (decimal w.1) (digits_without 45 (decimal w.1) (omega arith) last)) in
-    rw (cut, second_read i w.0 a, second_read i w.1 b) refl
+window_read i w a b = grind (arith, decimal, decimal_digits, parts-before, digits_without, parts-one, second_read)
 
 windows_read : (i : ℕ) (ws : List (ℕ × ℕ)) → AreInDays ws → windows_from i (map window_text ws) ≡ Ok ws
 unfolding windows_from
@@ -109,8 +96,7 @@ windows_without (w ∷ ws) h =
 
 pub high_join : (p : List ℕ) (ps : List (List ℕ)) → AreHigh p → AreHigh (join_with_byte 59 ps)
     → AreHigh (join_with_byte 59 (p ∷ ps))
-high_join p [] h more = h
-high_join p (q ∷ ps) h more = AreHigh-append p (59 ∷ join_with_byte 59 (q ∷ ps)) h (omega arith, more)
+high_join p ps h more = grind (arith, AreHigh-append, join_with_byte)
 
 pub high_windows : (ws : List (ℕ × ℕ)) → AreInDays ws → AreHigh (windows_join ws)
 high_windows [] h = tt
@@ -123,25 +109,17 @@ high_windows (w ∷ ws) h =
 
 -- a text that has a part with a byte has one
 join_some : (p : List ℕ) (ps : List (List ℕ)) → 0 < length p → 0 < length (join_with_byte 59 (p ∷ ps))
-join_some p [] h = h
-join_some p (q ∷ ps) h = omega (arith, h, length-append p (59 ∷ join_with_byte 59 (q ∷ ps)))
+join_some p ps h = grind (arith, length-append, join_with_byte)
 
 windows_some : (w : ℕ × ℕ) → 0 < length (window_text w)
-windows_some w = omega (arith, length-append (decimal w.0) (45 ∷ decimal w.1))
+windows_some w = grind (arith, common_steps)
 
 few_windows : (ws : List (ℕ × ℕ)) → windows_of ws ≡ Ok ws → nat_lt 4 (length ws) ≡ false
 unfolding windows_of
-few_windows [] e = refl
-few_windows (w ∷ ws) e = elim (cases_Bool (nat_lt 4 (length (w ∷ ws)))) [
-  | inl many ↦
-      let some : (length (w ∷ ws) == 0) ≡ false = ne_eqb (length (w ∷ ws)) 0 (λ z. omega (arith, z)) in
-      let none : Err TooMany ≡ Ok (w ∷ ws) = rw (some, many) at e in absurd (cc none)
-  | inr few ↦ few
-]
+few_windows ws e = grind arith
 
 length_windows : (ws : List (ℕ × ℕ)) → length (map window_text ws) ≡ length ws
-length_windows [] = refl
-length_windows (w ∷ ws) = ap suc (length_windows ws)
+length_windows ws = grind (arith, common_steps)
 
 not_empty : (text : List ℕ) → 0 < length text → (length text == 0) ≡ false
 not_empty text h = ne_eqb (length text) 0 (λ e. omega (arith, h, e))
@@ -159,26 +137,19 @@ windows_in_read (w ∷ ws) e h =
 
 -- ---- names
 
-name_high : (b : ℕ) → is_callsign_byte b ≡ true → 45 ≤ b
-name_high b e = grind (arith, nat_tests, common_steps)
-
-name_mark : (b : ℕ) → is_callsign_byte b ≡ true → (b == 59) ≡ false
-name_mark b e = ne_eqb b 59 (λ same. absurd (cc (rw same at e)))
-
 high_letters : (text : List ℕ) → list_all is_callsign_byte text ≡ true → AreHigh text
 high_letters [] h = tt
-high_letters (b ∷ rest) h = (name_high b (and_parts _ _ h).0, high_letters rest (and_parts _ _ h).1)
+high_letters (b ∷ rest) h = (search rules, high_letters rest (and_parts _ _ h).1)
 
 letters_without : (text : List ℕ) → list_all is_callsign_byte text ≡ true → IsWithout 59 text
 letters_without [] h = tt
-letters_without (b ∷ rest) h = (name_mark b (and_parts _ _ h).0, letters_without rest (and_parts _ _ h).1)
+letters_without (b ∷ rest) h = (search rules, letters_without rest (and_parts _ _ h).1)
 
 pub high_callsign : (text : List ℕ) → is_callsign text ≡ true → AreHigh text
 high_callsign text h = high_letters text (and_parts _ _ h).1
 
 callsign_some : (text : List ℕ) → is_callsign text ≡ true → 0 < length text
-callsign_some [] h = absurd (cc h)
-callsign_some (b ∷ text) h = omega arith
+callsign_some text h = grind arith
 
 names_without : (me : List ℕ) (before names : List (List ℕ)) → AreNewNames me before names → AreWithout 59 names
 names_without me before [] h = tt
@@ -187,16 +158,13 @@ names_without me before (n ∷ names) h =
 
 pub high_names : (me : List ℕ) (before names : List (List ℕ)) → AreNewNames me before names → AreHigh (names_join names)
 high_names me before [] h = tt
-high_names me before (n ∷ names) h =
-    high_join n names (high_callsign n h.0.0) (high_names me (before ++ n ∷ []) names h.1)
+high_names me before (n ∷ names) h = search (high_join, high_callsign, high_names me (before ++ n ∷ []) names h.1)
 
 names_read : (me : List ℕ) (i : ℕ) (before names : List (List ℕ)) → AreNewNames me before names
     → names_from me i before names ≡ Ok (before ++ names)
 unfolding names_from
 names_read me i before [] h = ap Ok (sym (append-nil before))
-names_read me i before (n ∷ names) h =
-    rw (h.0.0, h.0.1, h.0.2) (names_read me (i + 1) (before ++ n ∷ []) names h.1
-    ∙ ap Ok (append_assoc before (n ∷ []) names))
+names_read me i before (n ∷ names) h = grind (arith, append_assoc, names_read me (i + 1) (before ++ n ∷ []) names h.1)
 
 pub names_in_read : (me : List ℕ) (names : List (List ℕ)) → AreNewNames me [] names → length names ≤ 4
     → names_in me (names_join names) ≡ Ok names

@@ -1,5 +1,5 @@
 -- A record with too many fields is refused as one without fields is, and nothing behind it is read.
-use Rattle.std.proofs.Common.{◌≡◌, true, false, List, [], ◌∷◌, length, Result, Ok, Err, refl, arith, inl, inr}
+use Rattle.std.proofs.Common.{◌≡◌, true, false, List, [], ◌∷◌, length, Result, Err, refl, arith, inl, inr}
 use Rattle.std.specs.Prelude.{nat_lt}
 use Rattle.std.proofs.lemmas.Bool.{cases_Bool}
 use Rattle.std.proofs.lemmas.Grind.{common_steps}
@@ -30,13 +30,8 @@ in_within before (r ∷ rs) = elim (cases_Bool (nat_lt 6 (length r))) [
     both : (o : Result (List Flight) FlightFault)
         → ((flights : List Flight) → flights_in flights (within 6 rs) ≡ flights_in flights rs)
         → (o >>= (λ flights. flights_in flights (within 6 rs))) ≡ (o >>= (λ flights. flights_in flights rs))
-    both (Ok flights) same = same flights
-    both (Err e) same = refl
+    both o same = grind arith
 
 pub flights_within : (rs : List Fields) → flights_by (within 6 rs) ≡ flights_by rs
 unfolding flights_by is_header
-flights_within [] = refl
-flights_within (r ∷ rs) = elim (cases_Bool (nat_lt 6 (length r))) [
-  | inl wide ↦ rw (wide, wide_header r wide) refl
-  | inr few ↦ rw (few, in_within [] rs) refl
-]
+flights_within rs = grind (arith, cases_Bool, nat_lt, wide_header, in_within)

@@ -75,8 +75,7 @@ module _ {X : Type 0} (P : X → Type 0) where
       square n a b c own rest both = omega arith
 
   flat_short : (m : ℕ) (g : X → List Finding) (xs : List X) → ((x : X) → P x → length (findings_text (g x)) ≤ m)
-      → All P xs
-      → length (findings_text (flat_map g xs)) ≤ length xs * m
+      → All P xs → length (findings_text (flat_map g xs)) ≤ length xs * m
   flat_short m g [] short all = omega arith
   flat_short m g (x ∷ xs) short all =
       let own = short x (All-head P x xs all) in
@@ -190,12 +189,10 @@ module _ (s : Situation) (sound : IsSound s) where
       elim (cases_option (find (named l.callsign) s.active)) [
         | inl none ↦ rw none (rest.0, omega (arith, few))
         | inr some ↦ rw some.1 (
-          All-cons IsFound (l, some.0) (lines_found s.active ls)
-              (record {
-                line = All-head IsTold l ls told;
-                there =
-                    (found_in (named l.callsign) s.active some.0 some.1).0;
-              }) rest.0,
+          All-cons IsFound (l, some.0) (lines_found s.active ls) (record {
+            line = All-head IsTold l ls told;
+            there = (found_in (named l.callsign) s.active some.0 some.1).0;
+          }) rest.0,
           omega (arith, few),
         )
       ]
@@ -251,27 +248,23 @@ module _ (s : Situation) (sound : IsSound s) where
 
   known_all : (xs : List (ShownLanding × Active)) → All IsFound xs → All IsKnown (map landing_of xs)
   known_all [] all = All-nil IsKnown
-  known_all (x ∷ xs) all =
-      All-cons IsKnown (landing_of x) (map landing_of xs) (known x (All-head IsFound x xs all)) (known_all xs
-      (All-tail IsFound x xs all))
+  known_all (x ∷ xs) all = All-cons IsKnown (landing_of x)
+      (map landing_of xs) (known x (All-head IsFound x xs all)) (known_all xs (All-tail IsFound x xs all))
 
   -- ---- the rules
 
   module _ (all : List Landing) (has : All IsKnown all) (few : length all ≤ most_flights) (once : (c : Callsign)
       → landings_named c all ≤ 1) where
     closed_short : length (findings_text (closed s all)) ≤ 30 * length all
-    closed_short =
-        failing_short IsKnown (λ f. is_open f.flight.windows s.closures f.second)
-        (λ (f : Landing). Closed f.flight.callsign f.second) all
-        (λ f h failed. omega (arith, second_short f.second h.second, two_texts f.flight.callsign (decimal f.second)))
-        has
+    closed_short = failing_short IsKnown (λ f. is_open f.flight.windows s.closures f.second)
+        (λ (f : Landing). Closed f.flight.callsign f.second) all (λ f h failed. omega
+        (arith, second_short f.second h.second, two_texts f.flight.callsign (decimal f.second))) has
 
     pair_fits : (f g : Landing) → IsKnown f → IsKnown g → Fits (Separation f.flight.callsign g.flight.callsign)
     pair_fits f g h k = omega (arith, two_texts f.flight.callsign g.flight.callsign)
 
     unseparated_short : length (findings_text (unseparated s.aerodrome.table all)) ≤ 15 * (length all * length all)
-    unseparated_short =
-        pairs_short IsKnown (are_apart s.aerodrome.table)
+    unseparated_short = pairs_short IsKnown (are_apart s.aerodrome.table)
         (λ (f g : Landing). Separation f.flight.callsign g.flight.callsign) all pair_fits has
 
     listed_fits : (d : Landing) (c : Callsign) → IsKnown d → length c ≤ 8 → Fits (Precedence c d.flight.callsign)
@@ -299,33 +292,25 @@ module _ (s : Situation) (sound : IsSound s) where
     listed_short d c k = omega (arith, listed_few d c k all has, once c)
 
     late_of : (d : Landing) → IsKnown d → length (findings_text (flat_map (listed_late all d) d.flight.after)) ≤ 120
-    late_of d k =
-        omega (
-          arith,
-          flat_short (λ (c : Callsign). ⊤) 30 (listed_late all d) d.flight.after
-              (λ c t. listed_short d c k) (λ i c lt. tt),
-        )
+    late_of d k = omega (
+      arith,
+      flat_short (λ (c : Callsign). ⊤) 30 (listed_late all d) d.flight.after (λ c t. listed_short d c k) (λ i c lt. tt),
+    )
 
     late_short : length (findings_text (late all)) ≤ 120 * length all
-    late_short =
-        omega (
-          arith,
-          flat_short IsKnown 120 (λ (d : Landing). flat_map (listed_late all d) d.flight.after) all
-              late_of has,
-        )
+    late_short = omega
+        (arith, flat_short IsKnown 120 (λ (d : Landing). flat_map (listed_late all d) d.flight.after) all late_of has)
 
     moved_short : length (findings_text (moved all)) ≤ 30 * length all
-    moved_short =
-        failing_short IsKnown is_kept (λ (f : Landing). Moved f.flight.callsign (unwrap_or f.frozen 0)) all
-        (λ f h failed. omega (
+    moved_short = failing_short IsKnown is_kept
+        (λ (f : Landing). Moved f.flight.callsign (unwrap_or f.frozen 0)) all (λ f h failed. omega (
           arith,
           second_short (unwrap_or f.frozen 0) h.frozen,
           two_texts f.flight.callsign (decimal (unwrap_or f.frozen 0)),
         )) has
 
     early_short : length (findings_text (early (horizon s) all)) ≤ 30 * length all
-    early_short =
-        failing_short IsKnown (is_late_enough (horizon s)) (λ (f : Landing). Early f.flight.callsign) all
+    early_short = failing_short IsKnown (is_late_enough (horizon s)) (λ (f : Landing). Early f.flight.callsign) all
         (λ f h failed. omega (arith, one_name f.flight.callsign h.name)) has
 
     fewer : length (filter waits all) ≤ length all
@@ -344,29 +329,26 @@ module _ (s : Situation) (sound : IsSound s) where
         simp length-append (omega arith)
 
     shifted_short : length (findings_text (shifted s.aerodrome.k (filter waits all))) ≤ 30 * length all
-    shifted_short =
-        omega (
-          arith,
-          fewer,
-          failing_short IsKnown (is_shift_kept s.aerodrome.k (filter waits all))
-              (λ (f : Landing). Shift f.flight.callsign (place (filter waits all) f) (rank_among (filter waits all) f))
-              (filter waits all) (λ f h failed. shift_fits f h) (All-filter waits IsKnown all has),
-        )
+    shifted_short = omega (
+      arith,
+      fewer,
+      failing_short IsKnown (is_shift_kept s.aerodrome.k (filter waits all))
+          (λ (f : Landing). Shift f.flight.callsign (place (filter waits all) f) (rank_among (filter waits all) f))
+          (filter waits all) (λ f h failed. shift_fits f h) (All-filter waits IsKnown all has),
+    )
 
     rules_short : length (findings_text (by_rules s all)) ≤ 240 * length all + 15 * (length all * length all)
-    rules_short =
-        simp joined
+    rules_short = simp joined
         (omega (arith, closed_short, unseparated_short, late_short, moved_short, early_short, shifted_short))
 
     head_short : (b : Block) → length (findings_text (by_head s b all)) ≤ 60
-    head_short b =
-        omega (
-          arith,
-          objective_line,
-          value_line,
-          joined (other_objective b.objective s.aerodrome.objective)
-              (other_value b.plan.value (cost s.aerodrome.objective all)),
-        )
+    head_short b = omega (
+      arith,
+      objective_line,
+      value_line,
+      joined (other_objective b.objective s.aerodrome.objective)
+          (other_value b.plan.value (cost s.aerodrome.objective all)),
+    )
       where
         objective_line : length (findings_text (other_objective b.objective s.aerodrome.objective)) ≤ 30
         objective_line = elim (cases_Bool (is_objective b.objective s.aerodrome.objective)) [
@@ -408,9 +390,8 @@ module _ (s : Situation) (sound : IsSound s) where
         (λ l h failed. omega (arith, one_name l.callsign (callsign_short l.callsign h.callsign))) told in
         simp joined (omega (arith, x, y, twice_short [] ls told))
 
-    line_short : twice b.plan.landings ≡ []
-        → length (findings_text (by_line s b)) ≤ 60 + 300 * length b.plan.landings + 15 *
-        (length b.plan.landings * length b.plan.landings)
+    line_short : twice b.plan.landings ≡ [] → length (findings_text (by_line s b))
+        ≤ 60 + 300 * length b.plan.landings + 15 * (length b.plan.landings * length b.plan.landings)
     line_short none =
         let ls = b.plan.landings in
         let found = lines_found s.active ls in
@@ -451,10 +432,9 @@ module _ (s : Situation) (sound : IsSound s) where
             → length (findings_text (or_else xs (by_line s b)))
             ≤ 60 + 30 * length s.active + 300 * length b.plan.landings + 15 *
             (length b.plan.landings * length b.plan.landings)
-        go [] e h =
-            omega (
-              arith,
-              line_short (none_twice (missing s.active b.plan.landings) (unknown s.active b.plan.landings)
-                  (twice b.plan.landings) e),
-            )
+        go [] e h = omega (
+          arith,
+          line_short (none_twice (missing s.active b.plan.landings) (unknown s.active b.plan.landings)
+              (twice b.plan.landings) e),
+        )
         go (x ∷ xs) e h = omega (arith, h)

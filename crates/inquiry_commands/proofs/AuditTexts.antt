@@ -55,9 +55,8 @@ report_short m (x ∷ all) least h = h
 text_short : (s : Situation) (plan : PlanText) → IsSound s → AreTold plan
     → length (audit_text s plan) ≤ audit_bound (length s.active) (line_count_of (Ok plan))
 text_short s plans.Nothing sound told = omega arith
-text_short s (plans.Block b) sound told =
-    report_short (audit_bound (length s.active) (length b.lines)) (findings s (seen_block b)) (omega arith)
-    (findings_short s sound (seen_block b) told.0 told.1)
+text_short s (plans.Block b) sound told = report_short (audit_bound (length s.active) (length b.lines))
+    (findings s (seen_block b)) (omega arith) (findings_short s sound (seen_block b) told.0 told.1)
 
 pub audit_short : AuditIsBoundedLaw
 audit_short a f p text answer x =

@@ -22,10 +22,8 @@ text_is_one law a f text other answer another p q =
     here.opened.opens.situation ∙ sym there.opened.opens.situation in
     let plan : here.block.plan ≡ there.block.plan =
     law here.state.situation here.block.plan there.block.plan here.opened.sound.situation here.block.first
-    (subst (λ (x : Situation). IsFirstPlan x there.block.plan) (sym s) there.block.first) in (
-      cc (here.block.prints, there.block.prints),
-      cc (here.block.answers, there.block.answers),
-    )
+    (subst (λ (x : Situation). IsFirstPlan x there.block.plan) (sym s) there.block.first) in
+    (cc (here.block.prints, there.block.prints), cc (here.block.answers, there.block.answers))
 
 -- a first plan costs what a plan costs that may be shown
 costs : FirstBestObjectiveLaw → (s : Situation) (x y : Option Schedule) → IsFirstPlan s x → IsPlanShown s y →

@@ -24,12 +24,8 @@ module _ (gives : ListGivesScheduleLaw) (every : ScheduleGivesListLaw) (same : S
       best_least t b =
           let g = every state.situation p t sound of b.feasible in
           record {
-            attained = (
-              g.0,
-              g.1,
-              sym (same state.situation p g.0 sound of g.1)
-                  ∙ ap (objective state.situation) (sym g.2),
-            );
+            attained =
+                (g.0, g.1, sym (same state.situation p g.0 sound of g.1) ∙ ap (objective state.situation) (sym g.2));
             least = λ u f. (let le = b.least (joined state.situation u) (gives state.situation p u sound of f) in
                 let o = same state.situation p u sound of f in omega (arith, le, o));
           }
@@ -50,10 +46,9 @@ module _ (gives : ListGivesScheduleLaw) (every : ScheduleGivesListLaw) (same : S
       record { schedule = Some (joined state.situation t); first = law state.situation p t sound of f; is = ap Some e }
 
   -- which costs the same
-  pub first_value : FirstBestListLaw → FirstBestObjectiveLaw → IsPlanShown state.situation state.plan
-      → (t : Schedule) → IsFirstBestList p t → (first plan : ShownPlan)
-      → first ≡ shown_plan state.situation (joined state.situation t) → Some plan ≡ plan_shown state
-      → value_of (Some first) ≡ value_of (plan_shown state)
+  pub first_value : FirstBestListLaw → FirstBestObjectiveLaw → IsPlanShown state.situation state.plan → (t : Schedule)
+      → IsFirstBestList p t → (first plan : ShownPlan) → first ≡ shown_plan state.situation (joined state.situation t)
+      → Some plan ≡ plan_shown state → value_of (Some first) ≡ value_of (plan_shown state)
   first_value law costs shown t f first plan e is = go state.plan shown is
     where
       go : (q : Option Schedule) → IsPlanShown state.situation q → Some plan ≡ option_map (shown_plan state.situation) q

@@ -83,8 +83,7 @@ abbrev pub AreLines : List ShownLanding → Type 0
 AreLines ls = All IsTold ls × (length ls ≤ most_flights)
 
 lines_told : (n : ℕ) (before : List ShownLanding) (text : List ℕ) (rest : List (List ℕ)) (ls : List ShownLanding)
-    → AreLines before
-    → n ≡ length before + 2 → lines_in n before text rest ≡ Ok ls → AreLines ls
+    → AreLines before → n ≡ length before + 2 → lines_in n before text rest ≡ Ok ls → AreLines ls
 unfolding lines_in
 lines_told n before text [] ls all count e = elim (cases_Bool (length text == 0)) [
   | inl last ↦ subst AreLines (same_Some before ls (ap result_ok (rw last at e))) all
@@ -95,10 +94,8 @@ lines_told n before text (next ∷ rest) ls all count e =
     let one = line_told n text l.0 l.1 in
     let fits = one.1 in
     let more = length-append before (l.0 ∷ []) in
-    lines_told (n + 1) (before ++ l.0 ∷ []) next rest ls (
-      All-append IsTold before (l.0 ∷ []) all.0 (All-cons IsTold l.0 [] one.0 (All-nil IsTold)),
-      omega arith,
-    )
+    lines_told (n + 1) (before ++ l.0 ∷ []) next rest ls
+    (All-append IsTold before (l.0 ∷ []) all.0 (All-cons IsTold l.0 [] one.0 (All-nil IsTold)), omega arith)
     (omega arith) l.2
 
 body_told : (rest : List (List ℕ)) (ls : List ShownLanding) → body_lines rest ≡ Ok ls → AreLines ls

@@ -57,8 +57,7 @@ place_short k i (p ∷ ps) r few e = elim (cases_Bool (nat_lt k p.count)) [
   | inr below ↦ place_short k (i + 1) ps r (omega arith) (rw below at e)
 ]
 
-shift_short : (a : Aerodrome) (k : ℕ) (r : TrialRefusal) → IsInRange a → k ≤ greatest_k → shift_refusal a k ≡ Some r
-    → IsShort r
+shift_short : (a : Aerodrome) (k : ℕ) (r : TrialRefusal) → IsInRange a → k ≤ greatest_k → shift_refusal a k ≡ Some r → IsShort r
 shift_short a k r range small e = elim (cases_Bool (is_beyond a.version k a.objective)) [
   | inl beyond ↦
       subst IsShort (same_Some (refused.DelayShift k) r (rw beyond at e)) (omega (arith, rank_short k (omega arith)))
@@ -67,8 +66,7 @@ shift_short a k r range small e = elim (cases_Bool (is_beyond a.version k a.obje
 
 -- the refusal of a closure is in the words of its event
 closure_short : (x : Option rules.Refusal) (r : TrialRefusal)
-    → ((y : rules.Refusal) → x ≡ Some y → length (cause y) ≤ 30)
-    → closure_refusal x ≡ Some r → IsShort r
+    → ((y : rules.Refusal) → x ≡ Some y → length (cause y) ≤ 30) → closure_refusal x ≡ Some r → IsShort r
 closure_short None r h e = absurd (cc e)
 closure_short (Some (rules.CoversFrozen c t)) r h e =
     subst IsShort (same_Some (refused.CoversFrozen c t) r e) (h (rules.CoversFrozen c t) refl)
@@ -83,26 +81,21 @@ abbrev AreFewGood : Situation → Type 0
 AreFewGood s = All (λ (a : Active). IsGoodFlight a.flight) s.active × (length s.active ≤ most_flights)
 
 least_short : (s : Situation) (o : Outcome) → AreFewGood s → HasLeast s o → length (outcome_words o) ≤ 10
-least_short s (Value v) good (t, best, is) =
-    value_short v
+least_short s (Value v) good (t, best, is) = value_short v
     (omega (arith, is, schedule_low s.aerodrome.objective s.active t good.0 good.1 best.feasible.1.in_days))
 least_short s Infeasible good h = omega arith
 least_short s (Refused r) good h = absurd h
 
 by_short : (s : Situation) (o : Option TrialRefusal) (outcome : Outcome) → AreFewGood s
-    → ((r : TrialRefusal) → o ≡ Some r → IsShort r) → IsOutcomeBy s o outcome
-    → length (outcome_words outcome) ≤ 38
+    → ((r : TrialRefusal) → o ≡ Some r → IsShort r) → IsOutcomeBy s o outcome → length (outcome_words outcome) ≤ 38
 by_short s None outcome good h is = omega (arith, least_short s outcome good is)
 by_short s (Some r) outcome good h is = rw is (omega (arith, h r refl))
 
 module _ (a : Aerodrome) (fs : List Flight) (range : IsInRange a) (sound : IsSound (opened a fs)) where
-  cause_short : (trial : Trial) (r : TrialRefusal) → IsGood trial → refusal a fs trial ≡ Some r
-      → IsShort r
+  cause_short : (trial : Trial) (r : TrialRefusal) → IsGood trial → refusal a fs trial ≡ Some r → IsShort r
   cause_short (Shift k) r good e = shift_short a k r range good e
-  cause_short (Close from to) r good e =
-      closure_short (rules.refusal (opened a fs) (rules.Close (from, to))) r
-      (λ y is. refusal_short (opened a fs) sound (rules.Close (from, to)) y
-      (clock_in_days a.clock range.clock) good tt is) e
+  cause_short (Close from to) r good e = closure_short (rules.refusal (opened a fs) (rules.Close (from, to))) r (λ y is.
+      refusal_short (opened a fs) sound (rules.Close (from, to)) y (clock_in_days a.clock range.clock) good tt is) e
 
   few_good : (trial : Trial) → AreFewGood (changed (opened a fs) trial)
   few_good (Shift k) = (sound.flights, sound.few_active)
@@ -110,13 +103,11 @@ module _ (a : Aerodrome) (fs : List Flight) (range : IsInRange a) (sound : IsSou
 
   outcome_short : (trial : Trial) (outcome : Outcome) → IsGood trial → IsOutcomeOf a fs trial outcome
       → length (outcome_words outcome) ≤ 38
-  outcome_short trial outcome good is =
-      by_short (changed (opened a fs) trial) (refusal a fs trial) outcome (few_good trial)
-      (λ r e. cause_short trial r good e) is
+  outcome_short trial outcome good is = by_short
+      (changed (opened a fs) trial) (refusal a fs trial) outcome (few_good trial) (λ r e. cause_short trial r good e) is
 
-  line_short : (i : ℕ) (trial : Trial) (outcome : Outcome) → i ≤ most_waiting → IsGood trial
-      → IsOutcomeOf a fs trial outcome
-      → length (trial_line i outcome) ≤ 48
+  line_short : (i : ℕ) (trial : Trial) (outcome : Outcome)
+      → i ≤ most_waiting → IsGood trial → IsOutcomeOf a fs trial outcome → length (trial_line i outcome) ≤ 48
   line_short i trial outcome few good is =
       simp length-append (omega (arith, rank_short i few, outcome_short trial outcome good is))
 
@@ -126,13 +117,12 @@ module _ (a : Aerodrome) (fs : List Flight) (range : IsInRange a) (sound : IsSou
   lines_short i [] [] few good are = omega arith
   lines_short i [] (o ∷ outcomes) few good are = absurd are
   lines_short i (t ∷ trials) [] few good are = absurd are
-  lines_short i (t ∷ trials) (o ∷ outcomes) few good are =
-      omega (
-        arith,
-        line_short i t o (omega arith) (All-head IsGood t trials good) are.0,
-        lines_short (i + 1) trials outcomes (omega arith) (All-tail IsGood t trials good) are.1,
-        length-append (trial_line i o) (trial_lines (i + 1) outcomes),
-      )
+  lines_short i (t ∷ trials) (o ∷ outcomes) few good are = omega (
+    arith,
+    line_short i t o (omega arith) (All-head IsGood t trials good) are.0,
+    lines_short (i + 1) trials outcomes (omega arith) (All-tail IsGood t trials good) are.1,
+    length-append (trial_line i o) (trial_lines (i + 1) outcomes),
+  )
 
   pub outcomes_short : (trials : List Trial) (outcomes : List Outcome) → All IsGood trials → length trials ≤ most_trials
       → AreOutcomes a fs trials outcomes → length (outcomes_text outcomes) ≤ outcomes_bound (length trials)

@@ -83,8 +83,7 @@ module _ (s : Situation) (sound : IsSound s) where
       let value0 =
       ap (λ c. cond c [] (Value (cost s.aerodrome.objective (block_landings s.active lines)) ∷ [])) (eq-eqb _ _ same) in
       ap₂ or_else (nil_append _ _ missing0 (nil_append _ _ unknown0 twice0)) (nil_append _ _ (strict_lines S strict)
-      (nil_append _ _ (lines_marks s S fs)
-      (nil_append _ _ rules0 (nil_append _ _ (ap (λ c. cond c [] (OtherObjective ∷ [])) (same_refl _)) value0))))
+      (search (arith, nil_append, lines_marks, same_refl)))
 
   -- ---- and back
 

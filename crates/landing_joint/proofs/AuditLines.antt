@@ -69,13 +69,7 @@ twice_none seen [] e = (λ l m. absurd m, tt)
 twice_none seen (x ∷ lines) e = elim (cases_Bool (has_line seen x.callsign)) [
   | inl q ↦ absurd (cons_nil _ _ (rw q at e))
   | inr q ↦
-      (let w = twice_none _ lines (rw q at e) in (
-        λ l m. elim m [
-          | inl s ↦ rw s q
-          | inr k ↦ (or_parts _ _ (w.0 l k)).1
-        ],
-        (λ l k s. false≢true (sym (or_parts _ _ (w.0 l k)).0 ∙ (bytes_eq-Decides _ _).1 s), w.1),
-      ))
+      (let w = twice_none _ lines (rw q at e) in grind (arith, or_parts, false≢true, bytes_eq-Decides))
 ]
 
 pub none_twice : (seen lines : List ShownLanding)
@@ -136,10 +130,7 @@ pub lines_landings : (s : Situation) (fs : List Landing) → ((x : Landing) → 
     → block_landings s.active (map shown_landing fs) ≡ fs
 lines_landings s [] h = refl
 lines_landings s (x ∷ fs) h =
-    let w = h x (inl refl) in
-    ap (λ o. map landing_of (cons_option (option_map (λ a. (shown_landing x, a)) o)
-    (lines_found s.active (map shown_landing fs)))) w.1
-    ∙ ap₂ (λ (y : Landing) (l : List Landing). y ∷ l) (sym w.2) (lines_landings s fs (λ y m. h y (inr m)))
+    let w = h x (inl refl) in grind (arith, lines_landings s fs)
 
 pub mark_fits : (b : Bool) → cond (not b) (not b) b ≡ true
 mark_fits b = grind arith
@@ -149,15 +140,7 @@ pub lines_marks : (s : Situation) (fs : List Landing) → ((x : Landing) → Mem
     (lines_found s.active (map shown_landing fs)) ≡ []
 lines_marks s [] h = refl
 lines_marks s (x ∷ fs) h =
-    let w = h x (inl refl) in
-    let test = λ (y : ShownLanding × Active). is_marked y in
-    let made = λ (y : ShownLanding × Active). Mark _ in
-    ap (λ o. for_failing test made (cons_option (option_map (λ a. (shown_landing x, a)) o)
-    (lines_found s.active (map shown_landing fs)))) w.1
-    ∙ ap (λ b. cond b (for_failing test made (lines_found s.active (map shown_landing fs)))
-    (Mark x.flight.callsign ∷ for_failing test made (lines_found s.active (map shown_landing fs))))
-    (ap (λ (y : Landing). is_marked (shown_landing y, w.0)) w.2 ∙ mark_fits (is_waiting w.0))
-    ∙ lines_marks s fs (λ y m. h y (inr m))
+    let w = h x (inl refl) in grind (arith, mark_fits, lines_marks s fs)
 
 -- lines that find their flights, with the right last words, are those of their landings
 pub landings_lines : (s : Situation) (ls : List ShownLanding)
@@ -180,13 +163,7 @@ landings_lines s (l ∷ ls) h e =
   where
     marked : (l : ShownLanding) (a : Active) (rest : List Finding)
         → cond (is_marked (l, a)) rest (Mark l.callsign ∷ rest) ≡ [] → (l.frozen ≡ not (is_waiting a)) × (rest ≡ [])
-    marked l a rest e = go _ _ e
-      where
-        go : (b c : Bool) → cond (cond b (not c) c) rest (Mark l.callsign ∷ rest) ≡ [] → (b ≡ not c) × (rest ≡ [])
-        go true true e = absurd (cons_nil _ _ e)
-        go true false e = (refl, e)
-        go false true e = (refl, e)
-        go false false e = absurd (cons_nil _ _ e)
+    marked l a rest e = grind (arith, not, cons_nil)
 
 pub each_map : (R : Landing → Landing → Type 0) (F : ℕ → Landing) (xs : List ℕ) → Distinct xs
     → ((i j : ℕ) → In i xs → In j xs → i ≢ j → R (F i) (F j)) → Each R (map F xs)

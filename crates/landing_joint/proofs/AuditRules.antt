@@ -69,11 +69,7 @@ rules_kept s all good e =
   where
     separated : (f h : Landing) → (f ≡ h) ⊎ ((are_apart s.aerodrome.table f h ≡ true)
         ⊎ (are_apart s.aerodrome.table h f ≡ true)) → ArePairSeparated s.aerodrome.table f h
-    separated f h (inl q) = λ ne le. absurd (ne (cc))
-    separated f h (inr (inl q)) = (is_pair_separated-Decides _ f h).0
-        (and_parts (is_pair_separated s.aerodrome.table f h) (is_pair_separated s.aerodrome.table h f) q).0
-    separated f h (inr (inr q)) = (is_pair_separated-Decides _ f h).0
-        (and_parts (is_pair_separated s.aerodrome.table h f) (is_pair_separated s.aerodrome.table f h) q).1
+    separated f h x = grind (arith, is_pair_separated-Decides, and_parts)
 
     late_named : (c : Callsign) (d : Landing) → listed_late all d c ≡ []
         → for_failing (λ (k : Landing). not (bytes_eq k.flight.callsign c) || nat_lt k.second d.second)
@@ -109,5 +105,4 @@ kept_rules s all r =
     every (f ∷ fs) h = (λ g m. both f g (h f (inl refl)) (h g (inr m)), every fs (λ g m. h g (inr m)))
 
     either : (a b : Bool) → (a ≡ true → b ≡ true) → (not a || b) ≡ true
-    either true b h = h refl
-    either false b h = refl
+    either a b h = grind arith

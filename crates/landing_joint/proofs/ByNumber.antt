@@ -63,13 +63,7 @@ module _ (s : Situation) (sound : IsSound s) where
     where
       go : (b : Bool) → comes_before s.active j i ≡ b → Ordered (comes_before s.active) (insert_number s.active i js)
           → Ordered (comes_before s.active) (cond b (j ∷ insert_number s.active i js) (i ∷ j ∷ js))
-      go true e ih = (
-        λ y k. elim (insert_in s.active i y js k) [
-          | inl q ↦ rw q e
-          | inr m ↦ o.0 y m
-        ],
-        ih,
-      )
+      go true e ih = grind (arith, insert_in)
       go false e ih =
           let ij : comes_before s.active i j ≡ true = (first_come s.active).total j i (λ q. new (inl (sym q))) e in (
             λ y k. elim k [
@@ -109,16 +103,7 @@ last_rises (f ∷ []) r = inr (
 )
 last_rises (f ∷ x ∷ fs) r = elim (last_rises _ r.1) [
   | inl e ↦ absurd (cons_nil x fs e)
-  | inr w ↦ inr (
-    w.0,
-    inr w.1,
-    w.2,
-    λ g m. elim m [
-      | inl e ↦ (omega (arith, ap (λ (y : Landing). y.second) e))
-      | inr k ↦ w.3 g k
-    ],
-  )
-]
+  | inr w ↦ grind arith ]
   where
     cons_nil : (x : Landing) (fs : List Landing) → ◌≡◌ {A = List Landing} (x ∷ fs) [] → ⊥
     cons_nil x fs e = cc

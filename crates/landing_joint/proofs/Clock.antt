@@ -149,9 +149,7 @@ module _ (s : Situation) (sound : IsSound s) (t : Schedule) (f : IsFeasible s t)
       some_same a b e = cc
 
       early : (a b : Bool) → a ≡ true → false ≡ (a && not b) → b ≡ true
-      early true true p q = refl
-      early true false p q = q
-      early false b p q = absurd (false≢true p)
+      early a b p q = grind (arith, false≢true)
 
   pub late_after : (i : ℕ) → In i (numbered_situation changed).waiting → In i (numbers_of s.active)
       × (waits_at s.active i ≡ true) × (h ≤ second_of t i)
@@ -180,8 +178,7 @@ module _ (s : Situation) (sound : IsSound s) (t : Schedule) (f : IsFeasible s t)
 
   each_frozen_after : (P : Landing → Type 0) → ((i : ℕ) → In i (numbers_of s.active) → second_of t i < h
       → P (landing (numbered after i) (second_of t i))) → All P (frozen_landings changed)
-  each_frozen_after P q = list_frozen P _ (λ i lt u e. let m = in_after i lt in let x =
-      frozen_after i m u e in rw x.0 (q i m x.1))
+  each_frozen_after P q = list_frozen P _ (λ i lt u e. let m = in_after i lt in grind (arith, frozen_after))
 
   pub sound_after : IsSound changed
   sound_after = record {
@@ -199,14 +196,7 @@ module _ (s : Situation) (sound : IsSound s) (t : Schedule) (f : IsFeasible s t)
     few_closures = sound.few_closures;
     flights = each_after (λ a. IsGoodFlight a.flight) (λ i m. let b = in_numbers 0 (length s.active) i m in
         subst IsGoodFlight (sym (same_flight i m)) (omega arith));
-    passed = each_after (λ a. a.passed ≤ s.aerodrome.k) (λ i m. let o = passed_low s sound t f.0 i m in
-        elim (at_after i m).passed [
-          | inl e ↦ omega arith
-          | inr x ↦ elim x [
-            | inl e ↦ omega arith
-            | inr y ↦ (omega (arith, y.1))
-          ]
-        ]);
+    passed = each_after (λ a. a.passed ≤ s.aerodrome.k) (grind (arith, passed_low, at_after));
     no_carry = λ c. each_after (λ a. a.passed ≡ 0) (λ i m.
         let o = sound.no_carry c i nobody (omega (arith, (in_numbers 0 (length s.active) i m).1)) in
         elim (at_after i m).passed [
@@ -278,14 +268,7 @@ module _ (s : Situation) (sound : IsSound s) (t : Schedule) (f : IsFeasible s t)
     opened = λ i m. let a = after_among i m in subst
         (λ (x : Flight). (nat_le (second_of t i) last_second && is_open x.windows s.closures (second_of t i)) ≡ true)
         (sym (same_flight i a)) (fn.opened i (all_among s sound i a));
-    separated = λ i j mi mj ne le.
-        let a = after_among i mi in
-        let b = after_among j mj in
-        subst (λ (y : Flight). second_of t i + separation s.aerodrome.table
-        (numbered after i).flight.category y.category ≤ second_of t j) (sym (same_flight j b))
-        (subst (λ (x : Flight). second_of t i + separation s.aerodrome.table x.category
-        (numbered s.active j).flight.category ≤ second_of t j) (sym (same_flight i a))
-        (fn.separated i j (all_among s sound i a) (all_among s sound j b) ne le));
+    separated = grind (arith, after_among, same_flight, fn, all_among);
     in_order = λ i j mi mj l.
         let a = after_among i mi in
         let b = after_among j mj in

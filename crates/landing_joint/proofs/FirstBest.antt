@@ -81,10 +81,7 @@ module _ (s : Situation) (sound : IsSound s) where
       let c = first_come s.active in
       let before = comes_before s.active in
       let itself : before i i ≡ false = elim (cases_Bool _) [ inl t ↦ c.one_way i i t | inr f ↦ f ] in
-      let lt = count_stricter _ _ i _ m itself e (λ g k h. c.chain g i j h e) in
-      let a = count_is (λ g. before g i) ns.waiting in
-      let b = count_is (λ g. before g j) ns.waiting in
-      omega arith
+      let lt = count_stricter _ _ i _ m itself e (λ g k h. c.chain g i j h e) in grind (arith, count_is)
 
   ranks_one : (i j : ℕ) → In i ns.waiting → In j ns.waiting → rank_of i ≡ rank_of j → i ≡ j
   ranks_one i j mi mj e = elim (cases_eq i j) [
@@ -154,8 +151,7 @@ module _ (s : Situation) (sound : IsSound s) where
       let f = feasible_numbered s sound t ft.0 ft in
       let g = feasible_numbered s sound u fu.0 fu in
       let one = map_one _ _ _
-      (λ i j mi mj. ranks_one i j (in_waiting_by t i mi) (in_waiting_by u j mj)) (sym (order_is t ft.0)
-      ∙ e ∙ order_is u fu.0) in
+      (λ i j mi mj. ranks_one i j (in_waiting_by t i mi) (in_waiting_by u j mj)) (grind (arith, order_is)) in
       let at = waiting_ascend t f in
       let au = subst (Ascends (second_of u)) (sym one) (waiting_ascend u g) in
       all_in_order t u ft.0 f g (λ i j mi mj. ascends_same _ _ _ at au i j (waiting_in_by t i mi)
@@ -198,9 +194,7 @@ module _ (s : Situation) (sound : IsSound s) (p : lists'.Problem) (of : lists'.I
             (λ i m. let a = problem_of.at_all i (in_waiting_by s sound J i m) in subst
             (λ z. of_rank 0 v (rank_of s sound z) ≡ second_of J z) a.2 (ap (of_rank 0 v) (rank_at a.0 a.1)
             ∙ sym (joint.joined_rank s sound p of v a.0 a.1))) (waiting_ascend s sound J fn);
-      } in
-      order_is s sound J long ∙ one_landing_order p problem_sound _ (list_feasible p v f)
-      _ _ by (list_in_landing_order p problem_sound v f)
+      } in search (arith, order_is, one_landing_order, problem_sound, list_feasible, list_in_landing_order)
     where
       problem_of : numbers.ProblemOf (numbered_situation s) (ranked p) (number_at s)
       problem_of = joint.problem_of s sound p of
@@ -211,9 +205,7 @@ module _ (s : Situation) (sound : IsSound s) (p : lists'.Problem) (of : lists'.I
     feasible = f;
     least = λ u g.
         let a = b.least (joined s u) (joint.list_gives_schedule s sound p of u g) in
-        let here = joint.same_objective s sound p of v f in
-        let there = joint.same_objective s sound p of u g in
-        omega arith;
+        let here = joint.same_objective s sound p of v f in grind (arith, joint.same_objective);
   }
 
   -- lists that land in one order give schedules that do
@@ -239,15 +231,7 @@ module _ (s : Situation) (sound : IsSound s) (p : lists'.Problem) (of : lists'.I
           → second_of (joined s x) i < second_of (joined s x) j → second_of (joined s y) i < second_of (joined s y) j
       two x y h i j mi mj =
           let a = (joint.problem_of s sound p of).at_all i mi in
-          let b = (joint.problem_of s sound p of).at_all j mj in
-          rw a.2 at (subst (λ z. second_of (joined s x) (number_at s a.0) < second_of (joined s x) z
-          → second_of (joined s y) (number_at s a.0) < second_of (joined s y) z) b.2 (λ lt.
-          let xa = joint.joined_rank s sound p of x a.0 a.1 in
-          let xb = joint.joined_rank s sound p of x b.0 b.1 in
-          let ya = joint.joined_rank s sound p of y a.0 a.1 in
-          let yb = joint.joined_rank s sound p of y b.0 b.1 in
-          let l = h a.0 b.0 a.1 b.1 (omega (arith, xa, xb, lt)) in
-          omega (arith, ya, yb, l)))
+          let b = (joint.problem_of s sound p of).at_all j mj in grind (arith, joint.joined_rank)
 
   -- a list whose schedule is tight is tight
   pub tight_schedule_list : (v : Schedule) → lists'.IsFeasibleList p v → IsTight s (joined s v) → lists'.IsTightList p v
@@ -273,9 +257,7 @@ module _ (s : Situation) (sound : IsSound s) (p : lists'.Problem) (of : lists'.I
     first = λ u bu tu.
         let w = joint.schedule_gives_list s sound p of u bu.feasible in
         let bw = best_schedule_list w.0 w.1 (subst (IsBest s) w.2 bu) in
-        let tw = tight_schedule_list w.0 w.1 (subst (IsTight s) w.2 tu) in
-        subst (λ o. ComesNoLater (order_of s (joined s v)) o) (sym (ap (order_of s) w.2 ∙ joined_order w.0 w.1))
-        (subst (λ o. ComesNoLater o (order_of_list w.0)) (sym (joined_order v b.best.feasible)) (b.first w.0 bw tw));
+        let tw = tight_schedule_list w.0 w.1 (subst (IsTight s) w.2 tu) in grind (arith, joined_order);
   }
 
   passed_low : (r : ℕ) → IsRank (length p.flights) r → (of_rank no_waiting p.flights r).passed ≤ p.k
@@ -290,8 +272,7 @@ module _ (s : Situation) (sound : IsSound s) (p : lists'.Problem) (of : lists'.I
       (v.0, v.1, first_best_schedule v.0 v.1)
 
   rank_at : (i : ℕ) (f : lists'.Waiting) → i < length p.flights → f ≡ get_or p.flights i no_waiting → f.passed ≤ p.k
-  rank_at i f lt e = let a = passed_low (suc i) (omega arith, omega arith) in let b =
-      ap (λ (w : lists'.Waiting). w.passed) e in omega arith
+  rank_at i f lt e = let a = passed_low (suc i) (omega arith, omega arith) in grind arith
 
   -- the problem of a sound situation is sound
   pub sound_problem : IsSoundProblem p

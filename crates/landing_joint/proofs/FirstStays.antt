@@ -33,24 +33,13 @@ module _ (comes_before : ℕ → ℕ → Bool) (order : FirstCome comes_before) 
         ]
       ],
     )
-    | inr b ↦ (
-      r.0,
-      inr r.1,
-      λ y i. elim i [
-        | inl e ↦ rw e b
-        | inr j ↦ r.2 y j
-      ],
-    )
-  ]
+    | inr b ↦ grind arith ]
 
   first_of : (x : ℕ) (xs : List ℕ) → First (x ∷ xs)
   first_of x [] = (
     x,
     inl refl,
-    λ y i. elim i [
-      | inl e ↦ rw e (not_before_itself _ order x)
-      | inr j ↦ absurd j
-    ],
+    λ y i. grind (arith, not_before_itself),
   )
   first_of x (z ∷ zs) = earlier_first x (z ∷ zs) (first_of z zs)
 
@@ -124,10 +113,7 @@ module _ (comes_before : ℕ → ℕ → Bool) (order : FirstCome comes_before) 
           let apart' = apart f m i j ne in
           let within = and_from _ _ (lt-ltb _ _ (omega arith)) (order.total f m ne ahead) in
           let w = count_stricter _ _ f _ i (ap (λ b. b && comes_before f f) (le-ltb _ h stays_f)) within
-          (λ g n e. among g e) in
-          let a = overtook_is h f in
-          let b = overtook_is (t m) m in
-          omega arith
+          (λ g n e. among g e) in search (arith, overtook_is)
 
     -- each that stays bounds by itself those that freeze behind it
     pub few_overtook_itself : (h f : ℕ) → In f waiting → h ≤ t f → overtook comes_before t h waiting f ≤ back f

@@ -33,8 +33,7 @@ cancelled s plan c h =
     fewer_twice is_waiting test s.active in omega (arith, h.few_waiting)) h.few_closures
     (λ a m. each_of s h a (in_filter _ _ a m).0) (fewer_frozen s new h refl refl (omega arith)
     (λ f m. let r = in_frozen _ f m in rw r.4 (frozen_in _ r.0 r.1 (in_filter _ s.active r.0 r.2).0 r.3))
-    (λ a m. let r = in_filter _ _ a m in
-    (a, filter_in _ _ a (in_filter _ s.active a r.0).0 r.1, refl)))
+    (grind (arith, in_filter, filter_in)))
 
 -- ---- estimate
 
@@ -83,10 +82,7 @@ re_estimated s plan c eta windows h good ok =
     ]
 
     still : (a : Active) → Member a s.active → (t : ℕ) → a.frozen ≡ Some t → estimated c eta windows a ≡ a
-    still a m t e = elim (cases_Bool _) [
-      | inl q ↦ (let w = sym (named_waits s c h ok a m q) ∙ e in absurd (cc))
-      | inr q ↦ rw q
-    ]
+    still a m t e = grind (arith, cases_Bool, named_waits)
 
 -- ---- add
 
@@ -126,8 +122,7 @@ added s plan f h good ok =
     ] in
     sound_again s new h refl (differ_push _ _ (differ_of _ h.callsigns)
     (λ x m e. let n = none_any (named f.callsign) _ x p.0 m in false≢true (sym n ∙ ((bytes_eq-Decides _ _).1 e))))
-    (omega (arith, length_push s.active (newcomer f), p.1)) (let l =
-    waiting_push s.active f in omega (arith, p.2)) h.few_closures
+    (omega (arith, length_push s.active (newcomer f), p.1)) (grind (arith, waiting_push)) h.few_closures
     (λ a m. elim (in_push _ _ a m) [
       | inl q ↦ each_of s h a q
       | inr e ↦ rw e (good, omega arith, λ q. refl)

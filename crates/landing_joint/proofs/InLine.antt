@@ -153,10 +153,7 @@ event_counted : (s : Situation) (plan : Option Schedule) (c : Callsign) (g : ℕ
     IsGoodEvent e → refusal s e ≡ None → StaysInLine c s (situation_after s plan e)
     → Counted s.aerodrome.k c (situation_after s plan e) (g + passing_in_step (state_of s plan) e None c)
 event_counted s plan c g e sound feasible carry here so_far good ok line =
-    by_kind s Goal sound (λ plan e same none feasible good ok line.
-    let new = situation_after s plan e in
-    none_more _ c new g _ (none_pass (state_of s plan) e none _)
-    (so_far.0, quiet s new (event_keeps_sound s plan e sound good feasible ok) c g same here line so_far.1))
+    by_kind s Goal sound (search (arith, none_more, none_pass, quiet, event_keeps_sound))
     (λ t now feasible good ok line.
     let f = some_flight s c here in
     let r = clock_counts s t now c f.0 g sound carry (feasible t refl) ok f.1 line.waits so_far.1 in
@@ -196,9 +193,7 @@ run_counted old (e ∷ events) (a ∷ answers) c g sound carry good run here lin
     let now = step_counted old _ e _ c g sound (All-head IsGoodEvent e _ good) run.0 carry here line.0 so_far in
     let now' = subst (λ (x : Aerodrome). Counted x.k c a.state.situation (g + d)) (sym same) now in
     let rest = run_counted _ events _ c (g + d) next (cc)
-    (All-tail IsGoodEvent e _ good) run.1 line.0.waits line.1 now' in
-    let k = ap (λ (x : Aerodrome). x.k) same in
-    omega arith
+    (All-tail IsGoodEvent e _ good) run.1 line.0.waits line.1 now' in grind arith
 run_counted old events answers c g sound carry good run here line so_far = grind arith
 
 -- a count that each has is no more than k
@@ -280,9 +275,7 @@ event_exactly s plan e c sound feasible carry low ok =
     let mg = found (situation_after s plan e) c g later in
     let p = same g f mg.0 mf.0 (mf.1 ∙ sym mg.1) in
     let z = none_pass (state_of s plan) e none (waiting_flight s c) in
-    omega arith) (λ t now feasible ok f g here later.
-    clock_counts_exactly s t now c f g sound carry low (feasible t refl) ok here later
-    ∙ ap (λ o. f.passed + passing_flight (state_of s (Some t)) (Clock now) o) (sym here)) _ e ok feasible ok
+    omega arith) (grind (arith, clock_counts_exactly)) _ e ok feasible ok
   where
     Goal : Option Schedule → Event → Type 0
     Goal plan e = ((t : Schedule) → plan ≡ Some t → IsFeasible s t) → refusal s e ≡ None

@@ -65,10 +65,7 @@ module _ (s : Situation) (sound : IsSound s) (p : lists'.Problem) (of : lists'.I
       let vi = joined_rank s sound p of v _ qi in
       let vj = joined_rank s sound p of v _ qj in
       let wi = joined_rank s sound p of w _ qi in
-      let wj = joined_rank s sound p of w _ qj in (
-        λ lt. let a = o.0 (omega (arith, vi, vj, lt)) in omega (arith, wi, wj, a),
-        λ lt. omega (arith, vi, vj, o.1 (omega (arith, wi, wj, lt))),
-      )
+      let wj = joined_rank s sound p of w _ qj in omega arith
 
   earlier_kept : (v w : Schedule) → length v ≡ length p.flights → AllZip (λ a b. a ≤ b) v w
       → AllZip (λ a b. a ≤ b) (joined s v) (joined s w)
@@ -83,19 +80,11 @@ module _ (s : Situation) (sound : IsSound s) (p : lists'.Problem) (of : lists'.I
       waits : (v w : Schedule) → length v ≡ length p.flights → AllZip (λ a b. a ≤ b) v w → (r : ℕ)
           → IsRank (length p.flights) r → second_of (joined s v) (number_at s r) ≤ second_of
           (joined s w) (number_at s r)
-      waits v w long le zero q = omega arith
-      waits v w long le (suc i) q =
-          let a = joined_rank s sound p of v _ q in
-          let b = joined_rank s sound p of w _ q in
-          let c = AllZip-get_or _ v w i 0 0 le (omega (arith, q.1)) in
-          omega arith
+      waits v w long le r q = grind (arith, joined_rank, AllZip-get_or)
 
   -- a tight list gives a tight schedule
   pub tight_list_schedule : (v : Schedule) → lists'.IsTightList p v → IsTight s (joined s v)
   tight_list_schedule v t = record {
     feasible = list_gives_schedule s sound p of v t.feasible;
-    earliest = λ u f o.
-        let w = schedule_gives_list s sound p of u f in
-        subst (λ x. AllZip (λ a b. a ≤ b) (joined s v) x) (sym w.2) (earlier_kept v w.0 t.feasible.one_each
-        (t.earliest w.0 w.1 (order_kept v w.0 t.feasible.one_each (subst (λ x. HaveSameOrder (joined s v) x) w.2 o))));
+    earliest = grind (arith, schedule_gives_list, earlier_kept, order_kept);
   }

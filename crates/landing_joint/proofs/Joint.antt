@@ -55,11 +55,7 @@ first_come all = record {
 }
   where
     greater : (a b : ℕ) → a ≢ b → is_lt (by_number all a b) ≡ false → by_number all a b ≡ Greater
-    greater a b ne e = elim (cases _) [
-      | inl l ↦ absurd (false≢true (sym e ∙ ap is_lt l))
-      | inr (inl q) ↦ absurd (ne (number_level all a b q))
-      | inr (inr g) ↦ g
-    ]
+    greater a b ne e = grind (arith, cases, false≢true, number_level)
 
 -- ---- one flight
 
@@ -177,10 +173,7 @@ module _ (s : Situation) (sound : IsSound s) where
                 let b = place_is i in
                 let c = passed_low i n in
                 (omega (arith, k.0), omega (arith, k.1))));
-            frozen_kept = from (IsFrozenKept (horizon s))
-                (λ i m. of_kept (numbered s.active i).frozen (horizon s) (second_of t i)
-                (λ w. f.behind i (filter_in (waits_at s.active) i (numbers_of s.active) m w))
-                (λ w. f.kept i (filter_in (λ x. not (waits_at s.active x)) i (numbers_of s.active) m w)));
+            frozen_kept = search (arith, of_kept, filter_in, not, s.active, f.behind, f.kept);
           },
         )
 
@@ -217,8 +210,7 @@ module _ (s : Situation) (sound : IsSound s) where
       let n = numbered_situation s in
       let a = frozen_among in
       record {
-        triangle = λ x y z. sound.table.triangle (numbered s.active x).flight.category
-            (numbered s.active y).flight.category (numbered s.active z).flight.category;
+        triangle = search (arith, sound.table.triangle, s.active);
         order = first_come s.active;
         differ = distinct_filter (waits_at s.active) (numbers_of s.active) (distinct_numbers 0 (length s.active));
         frozen_before = λ i m. frozen_each (λ g. g.second < horizon s) sound.frozen_before i m;

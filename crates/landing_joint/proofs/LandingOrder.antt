@@ -62,9 +62,7 @@ filter_insert f (g ∷ fs) = go _ (filter_insert f fs)
     by true true h = IsPermutation-trans _ _ _ (IsPermutation-swap (f ∷ g ∷ filter _ fs)
         (g ∷ f ∷ filter _ fs) 0 1 (omega arith) (omega arith) refl)
         (IsPermutation-cons g (f ∷ filter _ fs) (filter _ (insert_landing f fs)) h)
-    by true false h = h
-    by false true h = IsPermutation-cons g (filter _ fs) (filter _ (insert_landing f fs)) h
-    by false false h = h
+    by c d h = grind (arith, IsPermutation-cons)
 
     go : (b : Bool) → IsPermutation (filter waits (f ∷ fs)) (filter waits (insert_landing f fs))
         → IsPermutation (filter waits (f ∷ g ∷ fs)) (filter waits (cond b (g ∷ insert_landing f fs) (f ∷ g ∷ fs)))
@@ -74,10 +72,7 @@ filter_insert f (g ∷ fs) = go _ (filter_insert f fs)
 pub filter_order : (fs : List Landing) → IsPermutation (filter waits fs) (filter waits (in_landing_order fs))
 filter_order [] = IsPermutation-refl []
 filter_order (f ∷ fs) = IsPermutation-trans _ _ _
-    (elim (cases_Bool (waits f)) [
-      | inl e ↦ rw e (IsPermutation-cons f _ _ (filter_order fs))
-      | inr e ↦ rw e (filter_order fs)
-    ]) (filter_insert f _)
+    (grind (arith, cases_Bool, IsPermutation-cons, filter_order fs)) (filter_insert f _)
 
 -- how many pass a test doesn't hang on the order
 pub count-moved : {X : Type 0} (p : X → Bool) (xs ys : List X) → IsPermutation xs ys → count_by p xs ≡ count_by p ys

@@ -90,19 +90,14 @@ module _ (s : Situation) (sound : IsSound s) (t : Schedule) (ok : IsFeasible s t
       → g ≤ (numbered s.active x).passed) where
     few_numbers : g + over i ≤ s.aerodrome.k
     few_numbers =
-        let r = bound_overtook _ (first_come s.active) _ _ _ h _ shifted i m in
-        let p = passed_low s sound t ok.0 r.0 (stays r.0 r.1).0 in
-        let l = least r.0 (waited r.0 r.1) r.2 in
-        omega arith
+        let r = bound_overtook _ (first_come s.active) _ _ _ h _ shifted i m in grind (arith, passed_low, stays, waited)
 
     counted_numbers : (x : ℕ) → In x stay → comes_before s.active i x ≡ false
         → g + over i ≤ (numbered changed.active x).passed
     counted_numbers x n ahead =
         let few = few_numbers in
         let l = least x (waited x n) ahead in
-        let o = fewer_overtook _ (first_come s.active) _ _ _ h _ shifted i x ahead in
-        let e = counted_after x n in
-        omega arith
+        let o = fewer_overtook _ (first_come s.active) _ _ _ h _ shifted i x ahead in grind (arith, counted_after)
 
   at_number : (y : Active) → Member y (waiting changed) → (i : ℕ) × In i stay × (y ≡ numbered changed.active i)
   at_number y m =
@@ -170,10 +165,7 @@ module _ (s : Situation) (sound : IsSound s) (t : Schedule) (ok : IsFeasible s t
           let a = flight_at _ i n.stays refl ∙ ap (λ (b : Active). b.flight) (sym n.was) in
           let not_behind = behind_are x.0 (waited x.0 x.1) ∙ ap₂ (λ p q. is_lt (arrival_cmp p q)) (sym a)
           (sym (flight_at y x.0 x.1 x.2)) ∙ ahead in
-          let few = counted_numbers g i n.stays least_numbers x.0 x.1 not_behind in
-          let p = passing_are i n in
-          let e = ap (λ (z : Active). z.passed) x.2 in
-          omega arith
+          let few = counted_numbers g i n.stays least_numbers x.0 x.1 not_behind in grind (arith, passing_are)
 
       counts : ClockCounts s t now c f g
       counts = record {
@@ -194,12 +186,7 @@ module _ (s : Situation) (sound : IsSound s) (t : Schedule) (ok : IsFeasible s t
         let w = stays i n.1.stays in
         let few = few_overtook_itself _ (first_come s.active)
         _ _ _ _ shifted (λ x m. omega arith) seconds_differ h i (waited i n.1.stays) w.2 in
-        let p = passed_low s sound t ok.0 i w.0 in
-        let a = counted_after i n.1.stays in
-        let same = ap (λ (z : Active). z.passed) (same_Some b _ (sym e ∙ n.1.is)) in
-        let was = ap (λ (z : Active). z.passed) n.1.was in
-        let over_is = passing_are i n.1 in
-        omega arith
+        let p = passed_low s sound t ok.0 i w.0 in grind (arith, counted_after, stays, same_Some, passing_are)
 
 pub clock_counts : ClockCountsLaw
 clock_counts s t now c f g sound carry ok e here later least = search (clock_counts_at, forth_of)

@@ -164,8 +164,7 @@ module _ (s : Situation) (sound : IsSound s) (p : lists'.Problem) (of : lists'.I
       | inr w ↦ (omega arith)
     ];
     at_in = in_waiting;
-    at_all = λ f i. let w = in_at (length s.active) R f (in_sorted s.active f ns.waiting i) in let l =
-        long_is in (w.0, (omega arith), w.2);
+    at_all = λ f i. let w = in_at (length s.active) R f (in_sorted s.active f ns.waiting i) in grind (arith, long_is);
     at_order = λ q r iq ir lt.
         let l = long_is in
         ordered_at (comes_before s.active) (length s.active) R
@@ -279,8 +278,7 @@ module _ (s : Situation) (sound : IsSound s) (p : lists'.Problem) (of : lists'.I
         omega arith))
       where
         at_greatest : (r : ℕ) → IsRank (length p.flights) r → of_rank 0 v r ≤ greatest v
-        at_greatest zero q = omega arith
-        at_greatest (suc i) q = greatest_at v i (omega arith)
+        at_greatest r q = grind (arith, greatest_at)
 
     makespan_none : v ≡ [] → greatest (map (second_of (joined s v)) (numbers_of s.active)) ≡ lists'.last_frozen p.last
     makespan_none e =
@@ -337,9 +335,5 @@ module _ (s : Situation) (sound : IsSound s) (p : lists'.Problem) (of : lists'.I
   pub best_list_schedule : (v : Schedule) → lists'.IsBestList p v → IsBest s (joined s v)
   best_list_schedule v b = record {
     feasible = list_gives_schedule v b.feasible;
-    least = λ u f.
-        let w = schedule_gives_list u f in
-        let here = same_objective v b.feasible in
-        let there = ap (objective s) w.2 ∙ same_objective w.0 w.1 in
-        omega arith;
+    least = grind (arith, schedule_gives_list, same_objective);
   }

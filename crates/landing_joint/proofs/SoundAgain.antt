@@ -23,8 +23,7 @@ pub record FrozenKeep (s : Situation) : Type 0 where
 
 pub kept : (s : Situation) → IsSound s → FrozenKeep s
 kept s h = record {
-  opened = λ f m. all_at (λ (f : Landing). IsTrue (is_open f.flight.windows s.closures f.second))
-      (frozen_landings s) h.frozen_open f m;
+  opened = search (arith, all_at, s.closures, h.frozen_open);
   separated = λ f g m n. all_at (ArePairSeparated s.aerodrome.table f) (frozen_landings s)
       (all_at (λ f. All (ArePairSeparated s.aerodrome.table f) (frozen_landings s))
       (frozen_landings s) h.frozen_separated f m) g n;
@@ -53,8 +52,7 @@ module _ (old new : Situation) (sound : IsSound old) (same : new.aerodrome ≡ o
     passed = all_from (λ (a : Active). a.passed ≤ new.aerodrome.k) new.active
         (λ a m. subst (λ (x : Aerodrome). a.passed ≤ x.k) (sym same) (each a m).1);
     no_carry = λ e. all_from (λ (a : Active). a.passed ≡ 0) new.active (λ a m. (each a m).2 (cc));
-    frozen_open = all_from (λ (f : Landing). IsTrue (is_open f.flight.windows new.closures f.second))
-        (frozen_landings new) frozen.opened;
+    frozen_open = search (arith, all_from);
     frozen_separated = all_from (λ f. All (ArePairSeparated new.aerodrome.table f) (frozen_landings new))
         (frozen_landings new) (λ f m. all_from (ArePairSeparated new.aerodrome.table f) (frozen_landings new)
         (λ g n. frozen.separated f g m n));

@@ -51,8 +51,7 @@ other_closures s new h same actives clocks few opened =
     (λ a m. each_of s h a (rw actives at m))
     (record {
       opened = λ f m. opened f (back f m);
-      separated = λ f g m n. subst (λ (x : Aerodrome). ArePairSeparated x.table f g) (sym same)
-          (k.separated f g (back f m) (back g n));
+      separated = grind arith;
       in_precedence = λ f g m n. k.in_precedence f g (back f m) (back g n);
       before = λ f m. let b = k.before f (back f m) in let e : horizon new ≡ horizon s = search in omega arith;
       alone = λ f a m n. k.alone f a (back f m) (subst (λ l. Member a (filter is_waiting l)) actives n);

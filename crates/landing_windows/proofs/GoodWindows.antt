@@ -1,9 +1,8 @@
 -- What the windows of a flight keep.
-use Rattle.std.proofs.Common.{◌≡◌, ℕ, ◌+◌, ◌≤◌, List, [], ◌∷◌, Option, Some, None, Bool, true, false, cond, length, Ok}
-use Rattle.std.proofs.Common.{Err, arith, refl, inl, inr}
-use Rattle.std.specs.Prelude.{◌==◌, nat_lt, nat_le}
+use Rattle.std.proofs.Common.{◌≡◌, ℕ, ◌+◌, ◌≤◌, List, [], ◌∷◌, Option, Some, None, Bool, true, false, cond}
+use Rattle.std.proofs.Common.{length, Ok, Err, arith, inl, inr}
+use Rattle.std.specs.Prelude.{nat_lt}
 use Rattle.std.proofs.lemmas.Bool.{cases_Bool, and_parts}
-use Rattle.std.proofs.lemmas.Bool.Decides.{nat_tests}
 use Rattle.std.proofs.lemmas.Grind.{common_steps}
 use Rattle.std.specs.List.{list_all}
 use Rattle.cps_base.specs.Limits.{most_open_seconds, most_windows}
@@ -13,7 +12,7 @@ use Rattle.landing_rules.specs.Sound.{AreGoodWindows}
 use Rattle.landing_windows.specs.Spans.{AreSpansFrom, AreInOrder}
 use Rattle.landing_windows.specs.Windows.{is_in_days, overlaps, bad_span, seconds_in, fault_or, windows_of}
 use Rattle.landing_windows.specs.declared.windows.WindowFault.{WindowFault}
-use Rattle.landing_windows.specs.declared.windows.WindowFault.TheVariants.{Empty, TooMany, Backward, Overlap, TooLong}
+use Rattle.landing_windows.specs.declared.windows.WindowFault.TheVariants.{Backward, Overlap, TooLong}
 use Rattle.landing_windows.specs.Runs.{all_forward, next_apart}
 
 -- the first second at which a span may begin after one that ended then
@@ -22,8 +21,7 @@ after_end None = 0
 after_end (Some last) = last + 1
 
 not_overlapping : (before : Option ℕ) (first : ℕ) → overlaps before first ≡ false → after_end before ≤ first
-not_overlapping None first e = omega arith
-not_overlapping (Some last) first e = let over : nat_le first last ≡ false = e in grind (arith, common_steps)
+not_overlapping before first e = grind arith
 
 pub in_order_of : (i : ℕ) (before : Option ℕ) (ss : List Span) → bad_span i before ss ≡ None
     → list_all is_in_days ss ≡ true → AreSpansFrom 1 (after_end before) ss
@@ -56,29 +54,11 @@ pub record Passed (ws : List Span) : Type 0 where
 
 no_fault : (ws : List Span) (fault : Option WindowFault) (b : Bool)
     → fault_or fault (cond b (Err TooLong) (Ok ws)) ≡ Ok ws → (fault ≡ None) × (b ≡ false)
-no_fault ws (Some x) b e = absurd (cc e)
-no_fault ws None true e = absurd (cc e)
-no_fault ws None false e = (refl, refl)
+no_fault ws fault b e = grind arith
 
 pub passed : (ws : List Span) → windows_of ws ≡ Ok ws → Passed ws
 unfolding windows_of
-passed ws e = elim (cases_Bool (length ws == 0)) [
-  | inl empty ↦ let none : Err Empty ≡ Ok ws = rw empty at e in absurd (cc none)
-  | inr some ↦ elim (cases_Bool (nat_lt most_windows (length ws))) [
-    | inl many ↦ let none : Err TooMany ≡ Ok ws = rw (some, many) at e in absurd (cc none)
-    | inr few ↦
-        let rest : fault_or (bad_span 1 None ws) (cond (nat_lt most_open_seconds (seconds_in ws)) (Err TooLong) (Ok ws)) ≡ Ok ws =
-        rw (some, few) at e in
-        let both = no_fault ws (bad_span 1 None ws) (nat_lt most_open_seconds (seconds_in ws)) rest in
-        let short = both.1 in
-        record {
-          some = grind (arith, nat_tests, common_steps);
-          few = grind (arith, nat_tests, common_steps);
-          in_order = both.0;
-          short = grind (arith, nat_tests, common_steps);
-        }
-  ]
-]
+passed ws e = grind arith
 
 pub in_order : (ws : List Span) → windows_of ws ≡ Ok ws → list_all is_in_days ws ≡ true → AreInOrder ws
 in_order ws e days = in_order_of 1 None ws (passed ws e).in_order days

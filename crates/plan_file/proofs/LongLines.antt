@@ -1,6 +1,6 @@
 -- A line with more fields than its form has is none, and a text that is not empty says something.
-use Rattle.std.proofs.Common.{◌≡◌, ℕ, ◌<◌, Bool, true, false, cond, List, [], ◌∷◌, length, None, Ok, Err, sym, ap, ◌∙◌}
-use Rattle.std.proofs.Common.{arith, refl}
+use Rattle.std.proofs.Common.{◌≡◌, ℕ, ◌<◌, Bool, true, false, cond, List, [], ◌∷◌, length, None, Ok, Err, sym}
+use Rattle.std.proofs.Common.{ap, ◌∙◌, arith, refl}
 use Rattle.std.specs.Prelude.{◌==◌}
 use Rattle.std.specs.List.{join_with_byte}
 use Rattle.std.proofs.lemmas.Bool.{eqb-true}
@@ -14,13 +14,11 @@ use Rattle.plan_file.specs.Reading.{nothing_behind}
 
 pub head_many : (a b : List ℕ) (ps : List (List ℕ)) → 0 < length ps → head_by (a ∷ b ∷ ps) ≡ None
 unfolding head_by
-head_many a b [] h = absurd (omega (arith, h))
-head_many a b (p ∷ ps) h = refl
+head_many a b ps h = grind arith
 
 pub landing_many : (a b c d : List ℕ) (ps : List (List ℕ)) → 0 < length ps → landing_by (a ∷ b ∷ c ∷ d ∷ ps) ≡ None
 unfolding landing_by
-landing_many a b c d [] h = absurd (omega (arith, h))
-landing_many a b c d (p ∷ ps) h = refl
+landing_many a b c d ps h = grind arith
 
 pub something_behind : (text : List ℕ) → 0 < length text → nothing_behind (parts 10 text) ≡ Err (fault.Line 2)
 something_behind text some = go (parts 10 text) refl

@@ -1,7 +1,6 @@
 -- The plan that a sound state shows has its callsigns and numbers in the ranges of a printed plan.
-use Rattle.std.proofs.Common.{◌≡◌, ◌≤◌, Bool, true, false, cond, List, [], ◌∷◌, Option, Some, None}
-use Rattle.std.proofs.Common.{map, subst, arith}
-use Rattle.std.specs.Prelude.{All, nat_lt, option_map}
+use Rattle.std.proofs.Common.{rules, ◌≡◌, ◌≤◌, true, List, [], ◌∷◌, Option, Some, map, arith}
+use Rattle.std.specs.Prelude.{All, option_map}
 use Rattle.std.proofs.lemmas.List.Elements.{All-head, All-tail}
 use Rattle.cps_base.specs.Text.{is_callsign}
 use Rattle.landing_rules.specs.Flights.{Active, Situation, Schedule, Landing, landings}
@@ -24,11 +23,7 @@ AreTold (f ∷ fs) = IsTold f × AreTold fs
 
 told_insert : (f : Landing) (fs : List Landing) → IsTold f → AreTold fs → AreTold (insert_landing f fs)
 told_insert f [] h k = (h, tt)
-told_insert f (g ∷ fs) h k = go (nat_lt g.second f.second) (told_insert f fs h k.1)
-  where
-    go : (b : Bool) → AreTold (insert_landing f fs) → AreTold (cond b (g ∷ insert_landing f fs) (f ∷ g ∷ fs))
-    go true more = (k.0, more)
-    go false more = (h, k)
+told_insert f (g ∷ fs) h k = grind (arith, told_insert f fs h k.1)
 
 told_order : (fs : List Landing) → AreTold fs → AreTold (in_landing_order fs)
 told_order [] h = tt
@@ -59,18 +54,7 @@ told_landings (a ∷ rest) (x ∷ t) g d =
 -- what is shown of a sound situation
 plan_readable : (s : Situation) (t : Option Schedule) (p : ShownPlan) → IsSound s → IsPlanShown s t
     → option_map (shown_plan s) t ≡ Some p → IsReadable p
-plan_readable s None p h k e = absurd (cc)
-plan_readable s (Some t) p h k e =
-    let days = k.0.feasible.1.in_days in
-    let same : shown_plan s t ≡ p = cc in
-    let shown = shown_few s t in
-    let few = h.few_active in
-    subst IsReadable same (record {
-      value = schedule_low s.aerodrome.objective s.active t h.flights h.few_active days;
-      few = omega arith;
-      landings = readable (in_landing_order (landings s.active t))
-          (told_order (landings s.active t) (told_landings s.active t h.flights days));
-    })
+plan_readable s t p h k e = grind (arith, shown_few, schedule_low, readable, told_order, told_landings)
 
 pub shown_readable : (state : State) (p : ShownPlan) → IsSoundState state → plan_shown state ≡ Some p → IsReadable p
-shown_readable state p h e = plan_readable state.situation state.plan p h.situation h.shown e
+shown_readable state p h e = search (rules, plan_readable)

@@ -1,7 +1,8 @@
 -- What is printed of a plan reads back as the plan.
-use Rattle.std.proofs.Common.{◌≡◌, ℕ, ◌+◌, ◌<◌, ◌≤◌, Bool, true, false, List, [], ◌∷◌, ◌++◌, length, map, Some, None}
-use Rattle.std.proofs.Common.{Ok, Err, Result, refl, sym, ap, subst, ◌∙◌, arith, inl, append_assoc, append-nil}
-use Rattle.std.specs.Prelude.{◌==◌, codes, decimal, option_map}
+use Rattle.std.proofs.Common.{rules, ◌≡◌, ℕ, ◌+◌, ◌<◌, ◌≤◌, Bool, true, false, List, [], ◌∷◌, ◌++◌, length, map, Some}
+use Rattle.std.proofs.Common.{None, Ok, Err, Result, refl, sym, ap, subst, ◌∙◌, arith, inl, append_assoc, append-nil}
+use Rattle.std.proofs.lemmas.Grind.{common_steps}
+use Rattle.std.specs.Prelude.{◌==◌, codes, decimal}
 use Rattle.std.proofs.lemmas.Bool.{le-ltb}
 use Rattle.std.proofs.lemmas.List.Elements.{All-append, All-cons}
 use Rattle.cps_base.specs.Answers.{◌>>=◌}
@@ -10,14 +11,13 @@ use Rattle.cps_base.specs.Limits.{greatest_value, most_flights}
 use Rattle.landing_rules.specs.Rules.{last_second}
 use Rattle.landing_rules.specs.declared.objective.Objective.{Objective}
 use Rattle.landing_rules.specs.declared.objective.Objective.TheVariants.{Makespan, Delay}
-use Rattle.landing_rules.specs.Text.{ShownLanding, ShownPlan, frozen_word, lines_text, head_words, landing_words}
-use Rattle.landing_rules.specs.Text.{block_text}
+use Rattle.landing_rules.specs.Text.{ShownLanding, ShownPlan, lines_text, head_words, landing_words, block_text}
 use Rattle.texts.specs.Parts.{parts}
 use Rattle.texts.specs.shared.Printed.{Lacks, cut, uncut, decimal_reads, decimal_lacks, lacks_by, callsign_lacks}
 use Rattle.plan_file.specs.declared.plan.PlanFault.{PlanFault}
 use Rattle.plan_file.specs.declared.plan.PlanFault.TheVariants as fault
 use Rattle.plan_file.specs.declared.plan.PlanText.TheVariants as said
-use Rattle.plan_file.specs.Lines.{head_in, head_by, landing_in, landing_by, landing_from, landing_with, mark_in}
+use Rattle.plan_file.specs.Lines.{head_in, head_by, landing_in, landing_by, landing_from}
 use Rattle.plan_file.specs.Reading.{line_in, lines_in, plan_behind, plan_by, plan_of, plan_with}
 use Rattle.plan_file.specs.Printed.{AreReadable, IsReadable}
 
@@ -31,8 +31,7 @@ AreLines (x ∷ xs) = Lacks 10 x × AreLines xs
 -- a text of lines is cut into them, and nothing stands behind the last
 parts_lines : (xs : Lines) → AreLines xs → parts 10 (lines_text xs) ≡ xs ++ [] ∷ []
 parts_lines [] h = refl
-parts_lines (x ∷ xs) h = ap (parts 10) (append_assoc x (10 ∷ []) (lines_text xs)) ∙ cut 10 x (lines_text xs) h.0 refl
-    ∙ ap (λ (ys : Lines). x ∷ ys) (parts_lines xs h.1)
+parts_lines (x ∷ xs) h = grind (arith, append_assoc, cut, parts_lines xs h.1)
 
 -- ---- the first line
 
@@ -40,15 +39,11 @@ number_lacks : (n mark : ℕ) → n ≤ greatest_value → mark < 48 → Lacks m
 number_lacks n mark h low = decimal_lacks n mark (omega arith) (inl low)
 
 head_lacks : (o : Objective) (v : ℕ) → v ≤ greatest_value → Lacks 10 (head_words o v)
-head_lacks Makespan v h = All-append (λ b. (b == 10) ≡ false) (codes "makespan ") (decimal v)
-    (lacks_by 10 (codes "makespan ") refl) (number_lacks v 10 h (omega arith))
-head_lacks Delay v h = All-append (λ b. (b == 10) ≡ false) (codes "delay ") (decimal v)
-    (lacks_by 10 (codes "delay ") refl) (number_lacks v 10 h (omega arith))
+head_lacks o v h = grind (arith, All-append, lacks_by, number_lacks)
 
 word_fields : (word : List ℕ) (v : ℕ) → Lacks 32 word → v ≤ greatest_value
     → parts 32 (word ++ 32 ∷ decimal v) ≡ word ∷ decimal v ∷ []
-word_fields word v l h = cut 32 word (decimal v) l refl
-    ∙ ap (λ (ys : Lines). word ∷ ys) (uncut 32 (decimal v) (number_lacks v 32 h (omega arith)))
+word_fields word v l h = grind (arith, cut, uncut, number_lacks)
 
 pub head_reads : (o : Objective) (v : ℕ) → v ≤ greatest_value → head_in (head_words o v) ≡ Some (o, v)
 unfolding head_in head_by
@@ -67,23 +62,16 @@ mark_word true = codes "frozen"
 mark_word false = codes "waiting"
 
 mark_lacks : (f : Bool) → Lacks 32 (mark_word f)
-mark_lacks true = lacks_by 32 (codes "frozen") refl
-mark_lacks false = lacks_by 32 (codes "waiting") refl
+mark_lacks f = grind arith
 
 mark_ends : (f : Bool) → Lacks 10 (32 ∷ mark_word f)
-mark_ends true = lacks_by 10 (codes " frozen") refl
-mark_ends false = lacks_by 10 (codes " waiting") refl
+mark_ends f = grind arith
 
 abbrev told : ShownLanding → List ℕ
 told f = codes "land" ++ 32 ∷ (f.callsign ++ 32 ∷ (decimal f.second ++ 32 ∷ mark_word f.frozen))
 
 same_words : (f : ShownLanding) → landing_words f ≡ told f
-same_words f = ap (λ (t : List ℕ). codes "land " ++ t) (by f.frozen)
-  where
-    by : (b : Bool) → f.callsign ++ codes " " ++ (decimal f.second ++ frozen_word b) ≡ f.callsign
-        ++ 32 ∷ (decimal f.second ++ 32 ∷ mark_word b)
-    by true = grind (arith, append_assoc)
-    by false = grind (arith, append_assoc)
+same_words f = grind (arith, append_assoc)
 
 landing_lacks : (f : ShownLanding) → is_callsign f.callsign ≡ true → f.second ≤ last_second → Lacks 10 (landing_words f)
 landing_lacks f c t =
@@ -99,35 +87,22 @@ landing_lacks f c t =
 
 landing_fields : (f : ShownLanding) → is_callsign f.callsign ≡ true → f.second ≤ last_second
     → parts 32 (told f) ≡ codes "land" ∷ f.callsign ∷ decimal f.second ∷ mark_word f.frozen ∷ []
-landing_fields f c t =
-    let behind : List ℕ → Lines → Lines = λ x xs. x ∷ xs in
-    cut 32 (codes "land") (f.callsign ++ 32 ∷ (decimal f.second ++ 32 ∷ mark_word f.frozen))
-    (lacks_by 32 (codes "land") refl) refl
-    ∙ ap (behind (codes "land")) (cut 32 f.callsign (decimal f.second ++ 32 ∷ mark_word f.frozen)
-    (callsign_lacks 32 f.callsign refl c) refl
-    ∙ ap (behind f.callsign) (cut 32 (decimal f.second) (mark_word f.frozen)
-    (second_lacks f.second 32 t (omega arith)) refl
-    ∙ ap (behind (decimal f.second)) (uncut 32 (mark_word f.frozen) (mark_lacks f.frozen))))
+landing_fields f c t = grind (arith, cut, lacks_by, callsign_lacks, second_lacks, uncut, mark_lacks)
 
 from_parts : (f : ShownLanding) → is_callsign f.callsign ≡ true → f.second ≤ last_second
     → landing_from f.callsign (decimal f.second) (mark_word f.frozen) ≡ Some f
 unfolding landing_from
-from_parts f c t = rw (c, decimal_reads f.second 0 last_second (omega arith) (omega arith) t) (go f.frozen)
-  where
-    go : (b : Bool) → option_map (landing_with f.callsign f.second) (mark_in (mark_word b)) ≡ Some
-        (landing_with f.callsign f.second b)
-    go true = refl
-    go false = refl
+from_parts f c t = grind (arith, decimal_reads)
 
 pub landing_reads : (f : ShownLanding) → is_callsign f.callsign ≡ true → f.second ≤ last_second
     → landing_in (landing_words f) ≡ Some f
 unfolding landing_in landing_by
-landing_reads f c t = ap landing_in (same_words f) ∙ ap landing_by (landing_fields f c t) ∙ from_parts f c t
+landing_reads f c t = grind (arith, same_words, landing_fields, from_parts)
 
 line_reads : (n : ℕ) (f : ShownLanding) → n ≤ most_flights + 1 → is_callsign f.callsign ≡ true → f.second ≤ last_second
     → line_in n (landing_words f) ≡ Ok f
 unfolding line_in
-line_reads n f few c t = rw (le-ltb (most_flights + 1) n few, landing_reads f c t) refl
+line_reads n f few c t = search (le-ltb, landing_reads)
 
 -- ---- all lines
 
@@ -138,17 +113,15 @@ lines_all n before (line ∷ rest) = lines_in n before line rest
 more : (n : ℕ) (before : List ShownLanding) (f : ShownLanding) (line : List ℕ) (rest : Lines)
     → 0 < length rest → line_in n line ≡ Ok f → lines_in n before line rest ≡ lines_all (n + 1) (before ++ f ∷ []) rest
 unfolding lines_in
-more n before f line [] some e = absurd (omega arith)
-more n before f line (next ∷ rest) some e = rw e refl
+more n before f line rest some e = grind arith
 
 has_last : (xs : Lines) (x : List ℕ) → 0 < length (xs ++ x ∷ [])
-has_last [] x = omega arith
-has_last (y ∷ xs) x = let h = has_last xs x in omega arith
+has_last xs x = grind (arith, common_steps)
 
 body_back : (n : ℕ) (before ls : List ShownLanding) → AreReadable ls → n + length ls ≤ 502
     → lines_all n before (map landing_words ls ++ [] ∷ []) ≡ Ok (before ++ ls)
 unfolding lines_in
-body_back n before [] h few = ap (λ (l : List ShownLanding). Ok l) (sym (append-nil before))
+body_back n before [] h few = grind (arith, append-nil)
 body_back n before (f ∷ ls) h few =
     more n before f (landing_words f) (map landing_words ls ++ [] ∷ []) (has_last (map landing_words ls) [])
     (line_reads n f (omega arith) h.0 h.1)
@@ -163,8 +136,7 @@ are_lines (f ∷ ls) h = (landing_lacks f h.0 h.1, are_lines ls h.2)
 not_nothing : (o : Objective) (v : ℕ) (rest : Lines)
     → plan_by (head_words o v ∷ rest) ≡ plan_behind (head_in (head_words o v)) rest
 unfolding plan_by
-not_nothing Makespan v rest = refl
-not_nothing Delay v rest = refl
+not_nothing o v rest = grind arith
 
 with_lines : (o : Objective) (v : ℕ) (ls : List ShownLanding) → AreReadable ls → length ls ≤ most_flights
     → plan_behind (Some (o, v)) (map landing_words ls ++ [] ∷ []) ≡ plan_with (o, v) ls
@@ -176,13 +148,8 @@ with_lines o v (f ∷ ls) h few =
 pub plan_back : (o : Objective) (p : ShownPlan) → IsReadable p
     → plan_of (block_text o (Some p)) ≡ plan_with (o, p.value) p.landings
 unfolding plan_of
-plan_back o p h =
-    ap plan_by (parts_lines (head_words o p.value ∷ map landing_words p.landings)
-    (head_lacks o p.value h.value, are_lines p.landings h.landings))
-    ∙ not_nothing o p.value (map landing_words p.landings ++ [] ∷ [])
-    ∙ ap (λ x. plan_behind x (map landing_words p.landings ++ [] ∷ [])) (head_reads o p.value h.value)
-    ∙ with_lines o p.value p.landings h.landings h.few
+plan_back o p h = search (rules, parts_lines, head_lacks, are_lines, not_nothing, head_reads, with_lines)
 
 pub nothing_back : (o : Objective) → plan_of (block_text o None) ≡ Ok said.Nothing
 unfolding plan_of plan_by
-nothing_back o = ap plan_by (parts_lines (codes "infeasible" ∷ []) (lacks_by 10 (codes "infeasible") refl, tt))
+nothing_back o = grind arith

@@ -1,6 +1,7 @@
 -- Landing lines, and where each ends.
-use Rattle.std.proofs.Common.{◌≡◌, ℕ, zero, suc, ◌+◌, ◌<◌, ◌≤◌, List, [], ◌∷◌, ◌++◌, length, get_or, map, take, drop}
-use Rattle.std.proofs.Common.{refl, sym, ap, ◌∙◌, arith, append_assoc}
+use Rattle.std.proofs.Common.{◌≡◌, ℕ, zero, suc, ◌+◌, ◌<◌, ◌≤◌, List, [], ◌∷◌, ◌++◌, length, get_or, map, take}
+use Rattle.std.proofs.Common.{drop, sym, ap, ◌∙◌, arith}
+use Rattle.std.proofs.lemmas.Grind.{common_steps}
 use Rattle.std.proofs.lemmas.List.{append-nil, length-append, map-append, take-map}
 use Rattle.std.proofs.Math.Seq.{take-append_seam}
 use Rattle.landing_rules.specs.Text.{ShownLanding, landing_words, line}
@@ -19,23 +20,16 @@ ends_first n (l ∷ ls) (suc k) h = (h.0, ends_first l.end ls k h.1)
 pub end_at : (n : ℕ) (ls : List Line) (k : ℕ) (d : Line) → EndAt n ls → k < length ls
     → (get_or ls k d).end ≡ n + length (of_lines (take (suc k) ls))
 end_at n [] k d h lt = absurd (omega arith)
-end_at n (l ∷ ls) zero d h lt = h.0 ∙ ap (λ t. n + length t) (sym (append-nil (line (landing_words (landing_of l)))))
-end_at n (l ∷ ls) (suc k) d h lt =
-    let ih = end_at l.end ls k d h.1 (omega arith) in
-    let here = h.0 in
-    let both = length-append (line (landing_words (landing_of l))) (of_lines (take (suc k) ls)) in
-    omega arith
+end_at n (l ∷ ls) zero d h lt = grind (arith, append-nil)
+end_at n (l ∷ ls) (suc k) d h lt = grind (arith, length-append, end_at l.end ls k d h.1 (omega arith))
 
 pub lines_more : (ls : List ShownLanding) (l : ShownLanding) → landing_lines (ls ++ l ∷ []) ≡ landing_lines ls
     ++ line (landing_words l)
-lines_more [] l = append-nil (line (landing_words l))
-lines_more (x ∷ xs) l = ap (λ t. line (landing_words x) ++ t) (lines_more xs l)
-    ∙ sym (append_assoc (line (landing_words x)) (landing_lines xs) (line (landing_words l)))
+lines_more ls l = grind (arith, common_steps)
 
 pub of_lines_more : (ls : List Line) (l : Line) → of_lines (ls ++ l ∷ []) ≡ of_lines ls
     ++ line (landing_words (landing_of l))
-of_lines_more ls l = ap landing_lines (map-append landing_of ls (l ∷ []))
-    ∙ lines_more (map landing_of ls) (landing_of l)
+of_lines_more ls l = grind (arith, map-append, lines_more)
 
 pub ends_more : (n : ℕ) (ls : List Line) (l : Line) → EndAt n ls
     → l.end ≡ n + length (of_lines ls ++ line (landing_words (landing_of l))) → EndAt n (ls ++ l ∷ [])
@@ -60,39 +54,27 @@ first_lines ls k = ap (take (length (of_lines (take k ls)))) (sym (of_first ls k
     ∙ take-append_seam (of_lines (take k ls)) (landing_lines (drop k (map landing_of ls)))
 
 pub first_short : (ls : List Line) (k : ℕ) → length (of_lines (take k ls)) ≤ length (of_lines ls)
-first_short ls k =
-    let a = ap (length {A = ℕ}) (of_first ls k) in
-    let b = length-append (of_lines (take k ls)) (landing_lines (drop k (map landing_of ls))) in
-    omega arith
+first_short ls k = let a = ap (length {A = ℕ}) (of_first ls k) in grind (arith, common_steps)
 
 -- ---- the bytes behind the first h
 
 take_none : (n : ℕ) → take {A = ℕ} n [] ≡ []
-take_none zero = refl
-take_none (suc n) = refl
+take_none n = grind arith
 
 pub drop_first : (h e : ℕ) (t : List ℕ) → drop h (take (h + e) t) ≡ take e (drop h t)
-drop_first zero e t = ap (λ n. take n t) (let same : 0 + e ≡ e = omega arith in same)
-drop_first (suc h) e [] = ap (drop (suc h)) (take_none (suc h + e)) ∙ sym (take_none e)
+drop_first zero e t = grind arith
+drop_first (suc h) e [] = grind (arith, take_none)
 drop_first (suc h) e (x ∷ xs) = ap (λ n. drop (suc h) (take n (x ∷ xs))) (let same : suc h + e ≡ suc (h + e) =
     omega arith in same) ∙ drop_first h e xs
 
 pub take_first : (h e : ℕ) (t : List ℕ) → take h (take (h + e) t) ≡ take h t
-take_first zero e t = refl
-take_first (suc h) e [] = ap (take (suc h)) (take_none (suc h + e))
-take_first (suc h) e (x ∷ xs) = ap (λ n. take (suc h) (take n (x ∷ xs))) (let same : suc h + e ≡ suc (h + e) =
-    omega arith in same) ∙ ap (λ l. x ∷ l) (take_first h e xs)
+take_first h e t = grind (arith, common_steps)
 
 pub drop_grown : (h : ℕ) (t more : List ℕ) → h ≤ length t → drop h (t ++ more) ≡ drop h t ++ more
-drop_grown zero t more le = refl
-drop_grown (suc h) [] more le = absurd (omega arith)
-drop_grown (suc h) (x ∷ xs) more le = drop_grown h xs more (omega arith)
+drop_grown h t more le = grind (arith, common_steps)
 
 pub length_behind : (h : ℕ) (t : List ℕ) → h ≤ length t → h + length (drop h t) ≡ length t
-length_behind zero t le = omega arith
-length_behind (suc h) [] le = absurd (omega arith)
-length_behind (suc h) (x ∷ xs) le = (let ih = length_behind h xs (omega arith) in omega arith)
+length_behind h t le = grind (arith, common_steps)
 
 pub drop_seam : (h t : List ℕ) → drop (length h) (h ++ t) ≡ t
-drop_seam [] t = refl
-drop_seam (x ∷ xs) t = drop_seam xs t
+drop_seam h t = grind (arith, common_steps)

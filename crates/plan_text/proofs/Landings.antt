@@ -1,6 +1,6 @@
 -- The lines of the first landings, and of those behind them.
-use Rattle.std.proofs.Common.{◌≡◌, ℕ, zero, suc, ◌+◌, List, [], ◌∷◌, ◌++◌, Some, take, drop, refl, sym, ap, ◌∙◌}
-use Rattle.std.proofs.Common.{append_assoc}
+use Rattle.std.proofs.Common.{arith, ◌≡◌, ℕ, zero, suc, ◌+◌, List, [], ◌∷◌, ◌++◌, Some, take, drop, refl, sym}
+use Rattle.std.proofs.Common.{ap, ◌∙◌, append_assoc}
 use Rattle.std.specs.Prelude.{map, slice_get}
 use Rattle.std.proofs.lemmas.List.{drop_more, take_more}
 use Rattle.std.proofs.lemmas.Option.{slice_get_within, get_or_from_slice_get}
@@ -17,18 +17,14 @@ rest_is ls i l e = drop_more ls i l (slice_get_within ls i l e)
 -- one line more of those that are left
 pub lines_left : (ls : List ShownLanding) (i : ℕ) (l : ShownLanding) (text : List ℕ) → slice_get ls i ≡ Some l →
     (text ++ line (landing_words l)) ++ landing_lines (drop (i + 1) ls) ≡ text ++ landing_lines (drop i ls)
-lines_left ls i l text e =
-    append_assoc text (line (landing_words l)) (landing_lines (drop (i + 1) ls))
-    ∙ ap (λ (r : List ShownLanding). text ++ landing_lines r) (sym (rest_is ls i l e))
+lines_left ls i l text e = grind (arith, append_assoc, rest_is)
 
 -- the lines of the first landings, and then those of the others
 pub lines_split : (ls : List ShownLanding) (i : ℕ) → landing_lines (take i ls)
     ++ landing_lines (drop i ls) ≡ landing_lines ls
 lines_split ls zero = refl
 lines_split [] (suc i) = refl
-lines_split (x ∷ xs) (suc i) =
-    append_assoc (line (landing_words x)) (landing_lines (take i xs)) (landing_lines (drop i xs))
-    ∙ ap (λ (t : List ℕ). line (landing_words x) ++ t) (lines_split xs i)
+lines_split (x ∷ xs) (suc i) = grind (arith, append_assoc, lines_split xs i)
 
 -- one landing more
 pub first_more : (all first : List ShownLanding) (i : ℕ) (l : ShownLanding) → first ≡ take i all

@@ -19,8 +19,7 @@ use Rattle.planning_commands.specs.ReplayLaws.{FewPassReplayLaw, EachStep, IsNoD
 
 -- a whole run is one over as many events as there are
 whole_run : (o : Opening) (flights : List Flight) (events : List Event) (s : State) (xs : List Answered)
-    → IsOpeningState o flights s → Run s events xs →
-    IsRunOf o flights events (length events) s xs
+    → IsOpeningState o flights s → Run s events xs → IsRunOf o flights events (length events) s xs
 whole_run o flights events s xs opens run =
     record { opened = opens; steps = subst (λ es. Run s es xs) (sym (take-length events)) run }
 
@@ -38,15 +37,13 @@ printed_same law a f l text x y p q =
 
 pub printed_sound : RunKeepsSoundLaw → ReplayIsSoundLaw
 printed_sound law a f l text x p =
-    let begun = p.begun.holds in
-    (begun.sound, law p.state p.events p.answers begun.sound begun.in_range p.run)
+    let begun = p.begun.holds in (begun.sound, law p.state p.events p.answers begun.sound begun.in_range p.run)
 
 -- one step
 no_dearer : ClockShowsPlanLaw → (old : State) (e : Event) (a : Answered) → IsSoundState old
     → Step old e a.answer a.state → IsNoDearerAfterClock old e a
 no_dearer law old e a sound step now t is accepted shown =
-    let by = rw (is, accepted) at step in
-    law old a.state now t sound shown (sym by.answered) by.effect
+    let by = rw (is, accepted) at step in law old a.state now t sound shown (sym by.answered) by.effect
 
 -- each step of a run from a sound state
 steps_no_dearer : ClockShowsPlanLaw → StepKeepsSoundLaw → (old : State) (events : List Event) (answers : List Answered)
@@ -57,9 +54,8 @@ steps_no_dearer law keeps old (e ∷ events) [] sound good run = absurd run
 steps_no_dearer law keeps old [] (a ∷ answers) sound good run = absurd run
 steps_no_dearer law keeps old (e ∷ events) (a ∷ answers) sound good run = (
   no_dearer law old e a sound run.0,
-  steps_no_dearer law keeps a.state events answers
-      (keeps old a.state e a.answer sound (All-head IsGoodEvent e events good) run.0)
-      (All-tail IsGoodEvent e events good) run.1,
+  steps_no_dearer law keeps a.state events answers (keeps old a.state e a.answer sound
+      (All-head IsGoodEvent e events good) run.0) (All-tail IsGoodEvent e events good) run.1,
 )
 
 pub printed_no_dearer : ClockShowsPlanLaw → StepKeepsSoundLaw → ClockIsNoDearerLaw

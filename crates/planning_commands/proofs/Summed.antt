@@ -23,12 +23,11 @@ use Rattle.endings.specs.declared.ending.FilesFault.TheVariants.{Opening}
 use Rattle.situations.specs.Refused.{opening_fault}
 use Rattle.planning_commands.specs.Trial.{Sums, StopsTrial}
 
-pub sums : (made : Made) (n k nodes : ℕ) (aerodrome : Aerodrome) (flights : List Flight) (s : Standing AnyKept)
-    (text : List ℕ) (answer : Answer) →
-    aerodrome ≡ made.aerodrome → flights ≡ made.flights → IsOpened aerodrome flights s.state → IsPlannedAnew s nodes →
-    text ≡ trial_text n k nodes s.state.situation.aerodrome.objective (plan_shown s.state)
-    → answer ≡ answer_of s.state.plan
-    → ShowsPlan made → Sums made n k text answer
+pub sums : (made : Made) (n k nodes : ℕ)
+    (aerodrome : Aerodrome) (flights : List Flight) (s : Standing AnyKept) (text : List ℕ) (answer : Answer)
+    → aerodrome ≡ made.aerodrome → flights ≡ made.flights → IsOpened aerodrome flights s.state
+    → IsPlannedAnew s nodes → text ≡ trial_text n k nodes s.state.situation.aerodrome.objective (plan_shown s.state)
+    → answer ≡ answer_of s.state.plan → ShowsPlan made → Sums made n k text answer
 sums made n k nodes aerodrome flights s text answer a_is f_is opened planned prints answers shows =
     let opens : IsOpeningState (opening_of made.aerodrome) (map flight_of made.flights) s.state =
     rw (← a_is, ← f_is) opened.opens in
@@ -49,8 +48,6 @@ sums made n k nodes aerodrome flights s text answer a_is f_is opened planned pri
 
 -- files that open are stopped by memory alone
 pub stops_short : (aerodrome : Aerodrome) (flights : List Flight) (ending : Ending)
-    → opening_fault aerodrome flights ≡ None →
-    StopsOpened aerodrome flights ending → StopsTrial ending
-stops_short aerodrome flights ending opens =
-    stops_by (λ cause. refusal_of aerodrome flights ≡ Some cause) (λ cause. ⊥) ending
-    (λ cause refused. none-some _ (sym (ap (option_map Opening) opens) ∙ refused))
+    → opening_fault aerodrome flights ≡ None → StopsOpened aerodrome flights ending → StopsTrial ending
+stops_short aerodrome flights ending opens = stops_by (λ cause. refusal_of aerodrome flights ≡ Some cause)
+    (λ cause. ⊥) ending (λ cause refused. none-some _ (sym (ap (option_map Opening) opens) ∙ refused))

@@ -24,8 +24,7 @@ abbrev first_line : Situation → Option Schedule → List Bytes
 first_line s plan = take 1 (block_lines s.aerodrome.objective (option_map (shown_plan s) plan))
 
 least : (s : Situation) (t u : Schedule) → IsBest s t → IsBest s u → objective s t ≡ objective s u
-least s t u a b =
-    omega (arith, a.least u b.feasible, b.least t a.feasible)
+least s t u a b = omega (arith, a.least u b.feasible, b.least t a.feasible)
 
 -- it is one, whichever plan is shown
 one_line : (s : Situation) (plan other : Option Schedule) → IsPlanShown s plan → IsPlanShown s other
@@ -47,12 +46,10 @@ sums_one made n k text other answer another x y =
     one_candidates y.state.situation x.problem y.problem problem y.problem_of x.nodes y.nodes
     x.candidates y.candidates in
     let shown = subst (λ (s : Situation). IsPlanShown s x.state.plan) one x.opens.shown in (
-      x.prints
-          ∙ ap (λ (s : Situation). summary n k s x.nodes x.state.plan) one
+      x.prints ∙ ap (λ (s : Situation). summary n k s x.nodes x.state.plan) one
           ∙ ap (λ (m : ℕ). summary n k y.state.situation m x.state.plan) nodes
           ∙ ap (λ (lines : List Bytes). lines_text (trial_head n k y.nodes ++ lines))
-          (one_line y.state.situation x.state.plan y.state.plan shown y.opens.shown)
-          ∙ sym y.prints,
+          (one_line y.state.situation x.state.plan y.state.plan shown y.opens.shown) ∙ sym y.prints,
       x.answers ∙ sym y.answers,
     )
 
@@ -67,14 +64,11 @@ one_effort : StepsAreOneLaw → (state other : State) → state ≡ other → (e
     → answers_of x.plannings.planned ≡ answers_of y.plannings.planned → effort_text x ≡ effort_text y
 one_effort law state other same events others x =
     subst (λ (s : State). (y : Effort s others) → answers_of x.plannings.planned ≡ answers_of y.plannings.planned
-    → effort_text x ≡ effort_text y) same
-    (λ y. law state events others x y)
+    → effort_text x ≡ effort_text y) same (λ y. law state events others x y)
 
 pub effort_one : StepsAreOneLaw → EffortTextIsOneLaw
 effort_one law a f l text other answer another x y run = (
   x.prints ∙ one_effort law x.state y.state run.state x.events y.events x.effort y.effort run.answers ∙ sym y.prints,
-  x.answered
-      ∙ ap (λ (s : State). answer_of (last_state s (answers_of x.effort.plannings.planned)).plan) run.state
-      ∙ ap (λ (answers : List Answered). answer_of (last_state y.state answers).plan) run.answers
-      ∙ sym y.answered,
+  x.answered ∙ ap (λ (s : State). answer_of (last_state s (answers_of x.effort.plannings.planned)).plan) run.state
+      ∙ ap (λ (answers : List Answered). answer_of (last_state y.state answers).plan) run.answers ∙ sym y.answered,
 )

@@ -104,11 +104,10 @@ replay_text_short law a f l puts text x =
     let fits = few a f l x.state x.events first.done first.rest begun first.split in
     let log = begun.holds.few in
     let run : length text ≤ replay_bound (length x.state.situation.active) (length first.done) =
-    rw first.prints (law x.state first.done first.answers
-    (tellable a f l x.state x.events first.done first.rest begun first.split)
+    rw first.prints
+    (law x.state first.done first.answers (tellable a f l x.state x.events first.done first.rest begun first.split)
     (good a f l x.state x.events first.done first.rest begun first.split)
-    (named a f l x.state x.events first.done first.rest begun first.split)
-    (omega (arith, fits, log)) first.run) in
+    (named a f l x.state x.events first.done first.rest begun first.split) (omega (arith, fits, log)) first.run) in
     let active = as_many begun.aerodrome begun.flights x.state.situation begun.holds.opens.situation in
     let by_file : length text ≤ replay_bound (length begun.flights) (length first.done) =
     subst (λ (n : ℕ). length text ≤ replay_bound n (length first.done)) active run in
@@ -127,8 +126,7 @@ total_short : (n : ℕ) → n < 99999999999 → length (decimal n) ≤ 11
 total_short n lt = length-decimal-le 11 n (omega arith) (omega arith) (omega arith)
 
 accepted_short : (i steps : ℕ) → i < 10000 → steps ≤ most_steps → length (answer_line i None steps) ≤ 50
-accepted_short i steps few small =
-    simp length-append (omega (arith, number_short i few, steps_short steps small))
+accepted_short i steps few small = simp length-append (omega (arith, number_short i few, steps_short steps small))
 
 module _ (law : BlockIsBoundedLaw) (keeps : StepKeepsSoundLaw) where
   line_short : (old new : State) (e : rules.Event) (answer : Option Refusal) (i steps : ℕ) → IsTellable old
@@ -139,10 +137,8 @@ module _ (law : BlockIsBoundedLaw) (keeps : StepKeepsSoundLaw) where
       refused_short i r few (refusal_short old.situation h.sound.situation e r h.clock own name (sym step.answered))
 
   lines_short : (held : Problem) (old : State) (events : List rules.Event) (planned : List Planned) (i : ℕ)
-      → IsTellable old
-      → All IsGoodEvent events → All HasShortName events → i + length events < 10000
-      → Run old events (answers_of planned)
-      → ArePlanned held planned
+      → IsTellable old → All IsGoodEvent events → All HasShortName events
+      → i + length events < 10000 → Run old events (answers_of planned) → ArePlanned held planned
       → (length (answer_lines i planned) ≤ 50 * length events) × (steps_of planned ≤ most_steps * length events)
   lines_short held old [] [] i h own names few run are = (omega arith, omega arith)
   lines_short held old [] (a ∷ planned) i h own names few run are = absurd run

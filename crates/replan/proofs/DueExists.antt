@@ -170,9 +170,8 @@ among_heads (suc n) r orders rs one le m = elim (cases_eq r (suc n)) [
 module _ (p : Problem) (wf : IsWellFormed p) (net : IsWindowNetwork p) where
   legal_order : (rs : List ℕ) → Legal (ranked p).rules rs → Member rs (all_orders (length p.flights) (length rs))
   legal_order [] legal = inl refl
-  legal_order (r ∷ rs) legal =
-      among_heads (length p.flights) r (all_orders (length p.flights) (length rs)) rs legal.0.fits.from_one
-      legal.0.fits.to_count (legal_order rs legal.1)
+  legal_order (r ∷ rs) legal = among_heads (length p.flights) r (all_orders (length p.flights) (length rs))
+      rs legal.0.fits.from_one legal.0.fits.to_count (legal_order rs legal.1)
 
   Lands : List ℕ → Type 0
   Lands rs = (landings : List Landing) × (earliest (first_at p) (next_from (ranked p)) rs ≡ Some landings)
@@ -191,10 +190,9 @@ module _ (p : Problem) (wf : IsWellFormed p) (net : IsWindowNetwork p) where
 
   decide_before : (stage : ℕ) (rs : List ℕ) → Decided (LandsBefore stage rs)
   decide_before stage [] = inr (absurd)
-  decide_before stage (r ∷ rs) =
-      with_decided (decide_legal _ (λ q x e. let b = wf.between_ranks q x e in (b.0, b.1)) (r ∷ rs)) (λ legal.
-      with_decided (decide_lands rs) (λ lands.
-      with_decided (cases_eq _ stage) (λ long. inl (legal, lands, long)) (λ h. h.2)) (λ h. h.1)) (λ h. h.0)
+  decide_before stage (r ∷ rs) = with_decided (decide_legal _
+      (λ q x e. let b = wf.between_ranks q x e in (b.0, b.1)) (r ∷ rs)) (λ legal. with_decided (decide_lands rs)
+      (λ lands. with_decided (cases_eq _ stage) (λ long. inl (legal, lands, long)) (λ h. h.2)) (λ h. h.1)) (λ h. h.0)
 
   window : List ℕ → List ℤ
   window rs = (node_of p.k rs).1
@@ -240,8 +238,7 @@ module _ (p : Problem) (wf : IsWellFormed p) (net : IsWindowNetwork p) where
           ascending = rising_ascends all.list all.rising;
           each = λ xs. (
             λ has. (let o = all.only xs (contains_member all.list xs has) in rw o.2 (is_candidate stage o.0 o.1)),
-            λ c. (let o = each_candidate stage xs c in member_contains all.list xs
-                (rw o.3 at (all.each o.0 o.1 o.2))),
+            λ c. (let o = each_candidate stage xs c in member_contains all.list xs (rw o.3 at (all.each o.0 o.1 o.2))),
           );
           counted = refl;
         },
@@ -261,6 +258,5 @@ pub due_alone : (p : Problem) → HasCounts p → HasDue None p
 due_alone p counted = where_exists (counts 1 p.k 0) p _ counted
 
 pub due_beside : (held p : Problem) (d : ℕ) → HasCounts p → IsFirstDifference held p d → HasDue (Some held) p
-due_beside held p d counted is =
-    (let due = where_exists (counts d p.k _) p _ counted in
+due_beside held p d counted is = (let due = where_exists (counts d p.k _) p _ counted in
     (due.0, (d, is, due.1)))

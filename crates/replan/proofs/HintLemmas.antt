@@ -1,4 +1,5 @@
 -- Stages without their pairs.
+use Rattle.std.proofs.lemmas.Grind.{common_steps}
 use Rattle.std.proofs.Common.{◌≡◌, ℕ, ◌+◌, ◌-◌, ◌<◌, List, [], ◌∷◌, ◌++◌, length, length-append, get_or, map, take, sym}
 use Rattle.std.proofs.Common.{inl, inr, arith, ◌∙◌}
 use Rattle.std.specs.Prelude.{ℤ, IsTrue}
@@ -6,7 +7,7 @@ use Rattle.std.proofs.lemmas.Bool.{cases_eq}
 use Rattle.std.proofs.lemmas.List.{get_or_append_left, get_or_push, get_or-map, get_or_default, length-map, map_more}
 use Rattle.landing_rules.specs.Problem.{Problem}
 use Rattle.cps_network.specs.Permits.{IsNextOf}
-use Rattle.replan.specs.Stages.{LabelledStage, no_stage, stage_at, AreStages, HintedStage, without_pairs, hinted_at}
+use Rattle.replan.specs.Stages.{LabelledStage, no_stage, AreStages, HintedStage, without_pairs, hinted_at}
 use Rattle.replan.specs.Stages.{AreHints}
 
 -- they are whole as said
@@ -17,18 +18,14 @@ hints_of_stages p stages is i lt said =
     let at = get_or-map without_pairs stages (i + 1) no_stage (without_pairs no_stage) here in
     let before = get_or-map without_pairs stages i no_stage (without_pairs no_stage) (omega arith) in
     let back : i + 1 - 1 ≡ i = omega arith in
-    let step : IsNextOf p i (stage_at stages i).stage.1 (stage_at stages (i + 1)).stage.1 =
-    rw back at (is.whole (i + 1) (omega arith) here (rw at at said)) in
-    rw (at, before, is.number i (omega arith)) step
+    rw (at, before, is.number i (omega arith)) (rw back at (is.whole (i + 1) (omega arith) here (rw at at said)))
 
 -- one stage more without its pairs
 pub one_shared : (stages : List LabelledStage) (hinted after : List HintedStage) (i : ℕ) (x y : LabelledStage)
     (s : ℕ × List (List ℤ)) → i < length stages → hinted ≡ map without_pairs (take i stages) → x ≡ y → y
     ≡ get_or stages i y → s ≡ x.stage → after ≡ hinted ++ record { stage = s; is_whole = x.is_whole } ∷ [] → after
     ≡ map without_pairs (take (i + 1) stages)
-one_shared stages hinted after i x y s lt before same e shared added =
-    let here = same ∙ e ∙ get_or_default stages i y no_stage lt in
-    rw (map_more without_pairs stages i no_stage lt, ← here, ← before, ← shared) added
+one_shared stages hinted after i x y s lt before same e shared added = grind (arith, common_steps, map_more)
 
 pub read_hinted : (hinted : List HintedStage) (i : ℕ) (x y : HintedStage) → x ≡ y → y ≡ get_or hinted i y
     → i < length hinted → x ≡ hinted_at hinted i

@@ -49,12 +49,11 @@ module _ (p : Problem) (net : IsWindowNetwork p) (before : ℕ × List (List ℤ
 
   pub node_given : (lists : List (List Pair)) → HoldsCosts p before lists → (xs : List ℤ) × Contains before.1 xs
       × IsSuccessor p before.0 xs node
-  node_given lists held =
-      let given = (pair_given lists held).2 in (
-        node_at before.1 (pair_given lists held).0,
-        Contains-get_or before.1 (pair_given lists held).0 [] given.within,
-        (given.rank, given.permitted, given.next),
-      )
+  node_given lists held = let given = (pair_given lists held).2 in (
+    node_at before.1 (pair_given lists held).0,
+    Contains-get_or before.1 (pair_given lists held).0 [] given.within,
+    (given.rank, given.permitted, given.next),
+  )
 
   module _ (self : StagePairs) (column : List ℕ) (is : of_column column ≡ self) (holds : HoldsPairs p before self) where
     pub column_gives : (place : ℕ) → GivesLabel p before column node q.0 place
@@ -62,10 +61,9 @@ module _ (p : Problem) (net : IsWindowNetwork p) (before : ℕ × List (List ℤ
     column_gives place gives =
         let makespan = column_makespan p before self column is holds in
         let free : q ≡ (q.0, 0) = ap (λ c. (q.0, c)) (attains_free p makespan (before.0 + 1) node q u.attained) in
-        let one : GivesPair p before (column_pairs column) node (q.0, 0) place 0 =
-        gives_pair p makespan before column node q.0 place (column_held p before self column is holds) gives in
         subst (λ ls. GivesPair p before ls.lists node q place 0) is
-        (subst (λ o. GivesPair p before (column_pairs column) node o place 0) (sym free) one)
+        (subst (λ o. GivesPair p before (column_pairs column) node o place 0) (sym free)
+        (gives_pair p makespan before column node q.0 place (column_held p before self column is holds) gives))
 
 -- ---- what is left of the candidates
 

@@ -1,6 +1,8 @@
 -- The least of the pairs of each node, a window at a time.
-use Rattle.std.proofs.Common.{◌≡◌, ℕ, zero, suc, ◌+◌, ◌-◌, ◌<◌, ◌≤◌, ◌⊎◌, inl, inr, List, [], ◌∷◌, ◌++◌, length, map}
-use Rattle.std.proofs.Common.{set, take, drop, min, Bool, true, false, refl, sym, ap, ap₂, subst, ◌∙◌, arith}
+use Rattle.std.proofs.lemmas.Grind.{common_steps}
+use Rattle.std.proofs.Common.{rules}
+use Rattle.std.proofs.Common.{◌≡◌, ℕ, ◌+◌, ◌-◌, ◌<◌, ◌≤◌, ◌⊎◌, inl, inr, List, [], ◌∷◌, ◌++◌, length, map}
+use Rattle.std.proofs.Common.{set, take, drop, min, Bool, refl, sym, ap, ap₂, ◌∙◌, arith}
 use Rattle.std.specs.Prelude.{nat_lt, slice_index}
 use Rattle.std.proofs.lemmas.Bool.{cases_eq}
 use Rattle.std.proofs.Math.Seq.{take-append_seam}
@@ -9,7 +11,6 @@ use Rattle.cps_theory.specs.Labels.{Pair}
 use Rattle.cps_theory.specs.UndominatedPairs.{Staircase}
 use Rattle.cps_network.specs.Pairs.{list_at, pair_at}
 use Rattle.cps_network.specs.shared.PairSteps.{at_in}
-use Rattle.makespan_labels.specs.Labels.{no_label}
 use Rattle.makespan_labels.specs.LabelPairs.{label_pairs, column_pairs, pair_if}
 use Rattle.makespan_labels.specs.shared.LabelPairs.{list_of_label}
 use Rattle.replan.specs.Labels.{last_pair}
@@ -32,8 +33,7 @@ min_is a b = grind arith
 -- that of one of its windows
 module _ (lists : List (List Pair)) (places firsts : List ℕ) (part : Pair → ℕ) where
   abbrev IsLow : ℕ → List Pair → Type 0
-  IsLow count least = (i : ℕ) → i < count
-      → part (pair_at least (told_at places i)) ≤ part (extremes (list_at lists i))
+  IsLow count least = (i : ℕ) → i < count → part (pair_at least (told_at places i)) ≤ part (extremes (list_at lists i))
 
   abbrev IsReached : List Pair → Type 0
   IsReached least = (j : ℕ) → j < length firsts → (i : ℕ) × (i < length places) × (told_at places i ≡ j)
@@ -41,11 +41,7 @@ module _ (lists : List (List Pair)) (places firsts : List ℕ) (part : Pair → 
 
   one_low : (count : ℕ) (least : List Pair) → IsLow count least
       → part (pair_at least (told_at places count)) ≤ part (extremes (list_at lists count)) → IsLow (count + 1) least
-  one_low count least low here i less = elim (cases_eq i count) [
-    | inl e ↦ subst (λ (m : ℕ). part (pair_at least (told_at places m)) ≤ part (extremes (list_at lists m))) (sym e)
-        here
-    | inr ne ↦ low i (omega (arith, less, ne))
-  ]
+  one_low count least low here i less = search (rules, cases_eq, here)
 
 module _ (lists : List (List Pair)) (places firsts : List ℕ) (count : ℕ) (least : List Pair)
     (a : AreLeastUpto lists places firsts count least) (lt : count < length places)
@@ -70,22 +66,17 @@ module _ (lists : List (List Pair)) (places firsts : List ℕ) (count : ℕ) (le
     there = ap part now ∙ is
 
     falls : (j : ℕ) → part (pair_at after j) ≤ part (pair_at least j)
-    falls j = elim (cases_eq j place) [
-      | inl e ↦ subst (λ (m : ℕ). part (pair_at after m) ≤ part (pair_at least m)) (sym e) (omega (arith, there))
-      | inr ne ↦ (let same = ap part (get_or-set_other least place j new (0, 0) ne) in omega (arith, same))
-    ]
+    falls j = search (rules, cases_eq, place, after, there, get_or-set_other)
 
     low_after : IsLow lists places firsts part count least → IsLow lists places firsts part (count + 1) after
-    low_after low = one_low lists places firsts part count after (λ i less. let b = low i less in let c =
-        falls (told_at places i) in omega arith) (omega (arith, there))
+    low_after low = search (rules, one_low, after, falls, there)
 
     reached_after : IsReached lists places firsts part least → IsReached lists places firsts part after
     reached_after reached j inside =
         let s = reached j inside in
         elim (cases_eq j place) [
           | inl e ↦
-              let at : part (pair_at after j) ≡ min (part (pair_at least place)) (part here) =
-              ap (λ m. part (pair_at after m)) e ∙ there in
+              let at = ap (λ m. part (pair_at after m)) e ∙ there in
               elim (min_is (part (pair_at least place)) (part here)) [
                 | inl old ↦ (s.0, s.1, s.2, at ∙ old.0 ∙ ap (λ m. part (pair_at least m)) (sym e) ∙ s.3)
                 | inr fresh ↦ (count, lt, sym e, at ∙ fresh.0)
@@ -105,13 +96,7 @@ module _ (lists : List (List Pair)) (places firsts : List ℕ) (count : ℕ) (le
   -- where the next window lowers nothing
   pub none_lower : (pair_at least place).0 ≤ here.0 → (pair_at least place).1 ≤ here.1
       → AreLeastUpto lists places firsts (count + 1) least
-  none_lower early cheap = record {
-    one_each = a.one_each;
-    early = one_low lists places firsts (λ q. q.0) count least a.early early;
-    cheap = one_low lists places firsts (λ q. q.1) count least a.cheap cheap;
-    earliest = a.earliest;
-    cheapest = a.cheapest;
-  }
+  none_lower early cheap = search (rules, one_low)
 
 -- ---- where all are written through a slice
 
@@ -121,28 +106,22 @@ as_written part items n e = ap (λ m. take m (part ++ drop (length part) items))
 -- ---- of a column, where nothing costs anything
 
 cost_of_label : (known : Bool) (label : ℕ) → (extremes (pair_if known label)).1 ≡ 0
-cost_of_label true label = refl
-cost_of_label false label = refl
+cost_of_label known label = grind (arith, common_steps)
 
 second_of_label : (known : Bool) (label : ℕ) → 0 < length (pair_if known label)
     → (extremes (pair_if known label)).0 ≡ label
-second_of_label true label some = refl
-second_of_label false label some = absurd (omega arith)
+second_of_label known label some = grind (arith, common_steps)
 
 module _ (column : List ℕ) (i : ℕ) (lt : i < length column) where
   pub column_cost : (extremes (list_at (column_pairs column) i)).1 ≡ 0
-  column_cost = ap (λ qs. (extremes qs).1) (list_of_label column i lt)
-      ∙ cost_of_label (nat_lt (slice_index column i) no_label) (slice_index column i)
+  column_cost = search (rules, list_of_label, cost_of_label, nat_lt, slice_index)
 
   pub column_second : 0 < length (list_at (column_pairs column) i)
       → (extremes (list_at (column_pairs column) i)).0 ≡ slice_index column i
-  column_second some =
-      let is = list_of_label column i lt in
-      ap (λ qs. (extremes qs).0) is ∙ second_of_label (nat_lt _ no_label) _ (rw is at some)
+  column_second some = search (rules, list_of_label, second_of_label, nat_lt)
 
 module _ (column : List ℕ) (nodes : WindowNodes) (h : HaveLeast (column_pairs column) nodes)
-    (count : ℕ) (least : List Pair)
-    (a : AreLeastUpto (column_pairs column) nodes.places nodes.firsts count least) where
+    (count : ℕ) (least : List Pair) (a : AreLeastUpto (column_pairs column) nodes.places nodes.firsts count least) where
   lists : List (List Pair)
   lists = column_pairs column
 
@@ -171,41 +150,29 @@ module _ (column : List ℕ) (nodes : WindowNodes) (h : HaveLeast (column_pairs 
         → AreLeastUpto (column_pairs column) nodes.places nodes.firsts (count + 1)
         (set least (told_at nodes.places count) (label, 0))
     less_label less =
-        let free = free_so_far _ within in
         let one = one_least (column_pairs column) nodes.places nodes.firsts count least a lt within in
         let new : lesser (pair_at least (told_at nodes.places count))
         (extremes (list_at (column_pairs column) count)) ≡ (label, 0) =
-        ap₂ (λ x y. (x, y)) (min_right _ _ second less) (min_none _ _ free) in
+        ap₂ (λ x y. (x, y)) (min_right _ _ second less) (min_none _ _ (free_so_far _ within)) in
         rw new at one
 
     -- and any other changes nothing
     pub other_label : (pair_at least (told_at nodes.places count)).0 ≤ label
         → AreLeastUpto (column_pairs column) nodes.places nodes.firsts (count + 1) least
-    other_label le =
-        let free = free_so_far _ within in
-        none_lower (column_pairs column) nodes.places nodes.firsts count least a lt within
-        (omega (arith, le, second)) (omega arith)
+    other_label le = search (rules, free_so_far, within, none_lower, second)
 
 -- ---- seconds of the two days
 
 pub days_none : (m j : ℕ) → (pair_at [] j).0 ≤ m
-days_none m zero = omega arith
-days_none m (suc j) = omega arith
+days_none m j = grind (arith, common_steps)
 
 pub days_push : (xs : List Pair) (q : Pair) (m : ℕ) → ((j : ℕ) → (pair_at xs j).0 ≤ m) → q.0 ≤ m
     → (j : ℕ) → (pair_at (xs ++ q ∷ []) j).0 ≤ m
-days_push [] q m h l zero = l
-days_push [] q m h l (suc j) = h j
-days_push (x ∷ xs) q m h l zero = h 0
-days_push (x ∷ xs) q m h l (suc j) = days_push xs q m (λ i. h (suc i)) l j
+days_push xs q m h l given = grind (arith, common_steps)
 
 pub days_set : (xs : List Pair) (i : ℕ) (q : Pair) (m : ℕ) → ((j : ℕ) → (pair_at xs j).0 ≤ m)
     → q.0 ≤ m → (j : ℕ) → (pair_at (set xs i q) j).0 ≤ m
-days_set [] i q m h l j = h j
-days_set (x ∷ xs) zero q m h l zero = l
-days_set (x ∷ xs) zero q m h l (suc j) = h (suc j)
-days_set (x ∷ xs) (suc i) q m h l zero = h 0
-days_set (x ∷ xs) (suc i) q m h l (suc j) = days_set xs i q m (λ n. h (suc n)) l j
+days_set xs i q m h l j = grind (arith, common_steps)
 
 -- ---- all windows
 
@@ -237,13 +204,7 @@ module _ (lists : List (List Pair)) (nodes : WindowNodes) (h : HaveLeast lists n
   pair_there : (i j index : ℕ) → i < length nodes.places → told_at nodes.places i ≡ j
       → (0 < length (list_at lists i) → index < length (list_at lists i))
       → IsPairAt lists nodes.places j (pair_at (list_at lists i) index)
-  pair_there i j index lt of_node listed = record {
-    window = i;
-    within = lt;
-    of_node = of_node;
-    has = at_in (list_at lists i) index (pair_at (list_at lists i) index)
-        (listed (h.some i (let l = h.long in omega (arith, lt, l)))) refl;
-  }
+  pair_there i j index lt of_node listed = search (rules, within, at_in)
 
   pub all_least : (least : List Pair) → AreLeastUpto lists nodes.places nodes.firsts (length nodes.places) least
       → AreLeastOf lists nodes least
@@ -253,14 +214,12 @@ module _ (lists : List (List Pair)) (nodes : WindowNodes) (h : HaveLeast lists n
       early = λ q is.
           let b = a.early is.window is.within in
           let c = first_least (list_at lists is.window) (falling_at is.window is.within) q is.has in
-          let e : (pair_at least (told_at nodes.places is.window)).0 ≡ (pair_at least j).0 =
-          ap (λ (m : ℕ). (pair_at least m).0) is.of_node in
+          let e = ap (λ (m : ℕ). (pair_at least m).0) is.of_node in
           omega (arith, b, c, e);
       cheap = λ q is.
           let b = a.cheap is.window is.within in
           let c = last_cheapest (list_at lists is.window) (falling_at is.window is.within) q is.has in
-          let e : (pair_at least (told_at nodes.places is.window)).1 ≡ (pair_at least j).1 =
-          ap (λ (m : ℕ). (pair_at least m).1) is.of_node in
+          let e = ap (λ (m : ℕ). (pair_at least m).1) is.of_node in
           omega (arith, b, c, e);
       earliest = (let s = a.earliest j lt in (_, pair_there s.0 j 0 s.1 s.2 (λ some. some), sym s.3));
       cheapest = (let s = a.cheapest j lt in (

@@ -91,17 +91,14 @@ module _ (p : Problem) (is : IsPlannedFor p) (stage : ℕ × List (List ℤ)) (l
       let o = are.covers q (rw it a) in (
         has.0,
         omega arith,
-        least_worth p.objective (list_at labels.lists has.0) are.falling
-            (λ makespan r i. attains_free p makespan stage.0 (node_at stage.1 has.0) r
-            ((are.undominated r).0 i).attained)
-            o.0 q o.1 o.2,
+        least_worth p.objective (list_at labels.lists has.0) are.falling (λ makespan r i.
+            attains_free p makespan stage.0 (node_at stage.1 has.0) r ((are.undominated r).0 i).attained) o.0 q o.1 o.2,
       )
 
   -- without a window no list is feasible
   pub none_feasible : length labels.lists ≡ 0 → (u : Schedule) → IsFeasibleList p u → ⊥
   none_feasible none u f =
-      let inside = (bounds u f).1 in
-      absurd (omega arith)
+      let inside = (bounds u f).1 in absurd (omega arith)
 
   module _ (place : ℕ) (least : IsLeastPlace labels place) where
     -- no feasible list is worth less than the last pair of the place whose last pair is worth least

@@ -32,9 +32,8 @@ read_at w p held h stages i x y e f same at readable is =
 module _ (p : Problem) (held : Option HeldProblem) (i : ℕ) (x : LabelledStage) (r : IsReadAt p held i x) where
   pub read_nodes : (n : WindowNodes) → AreNodesOf held i n
       → ArePutTogether x.stage.0 x.stage.1 (length x.stage.1) n.places n.firsts
-  read_nodes n are = subst (λ s. ArePutTogether x.stage.0 s.1 (length s.1) n.places n.firsts)
-      (sym r.stage)
-      (rw r.number are.together)
+  read_nodes n are =
+      subst (λ s. ArePutTogether x.stage.0 s.1 (length s.1) n.places n.firsts) (sym r.stage) (rw r.number are.together)
 
   pub have_least : (n : WindowNodes) → AreNodesOf held i n → HaveLeast x.labels.lists n
   have_least n are =

@@ -1,8 +1,10 @@
 -- Stage 0 with its pair, one stage more, and what is kept of the stages of a problem for another.
+use Rattle.std.proofs.lemmas.Grind.{common_steps}
+use Rattle.std.proofs.Common.{rules}
 use Rattle.replan.specs.shared.LastPairs.{list_some}
 use Rattle.replan.specs.shared.Pushed.{each_pushed}
 use Rattle.std.proofs.Common.{◌≡◌, ℕ, zero, suc, ◌+◌, ◌*◌, ◌<◌, ◌≤◌, List, [], ◌∷◌, ◌++◌, length, get_or, replicate}
-use Rattle.std.proofs.Common.{length-append, refl, sym, ap, subst, ◌∙◌, arith, inl, inr, zero-le, Option, Some, None}
+use Rattle.std.proofs.Common.{length-append, refl, sym, ap, subst, ◌∙◌, arith, inl, inr, zero-le, Option, Some}
 use Rattle.std.proofs.Common.{◌-◌, take}
 use Rattle.std.specs.Prelude.{ℤ, pos, Bool, Contains, IsTrue}
 use Rattle.std.proofs.lemmas.Bool.{cases_lt, le-leb, lt-leb}
@@ -42,13 +44,7 @@ pub start_only : (p : Problem) (v : List ℤ) → IsLandable p 0 v → node_of p
 start_only p v l = rw (no_landing l.1.landings (ap (λ n. n.0) l.1.at)) at l.1.at
 
 start_attains : (p : Problem) → Attains p 0 (replicate (2 * p.k + 1) (pos 0)) (0, 0)
-start_attains p = record {
-  landings = [];
-  legal = tt;
-  landed = tt;
-  at = ap (λ (w : List ℤ). (0, w)) (source_is p);
-  is = refl;
-}
+start_attains p = search (rules, source_is)
 
 -- nothing but (0, 0) is attained there
 pub start_pair : (p : Problem) (v : List ℤ) (q : Pair) → Attains p 0 v q → (0, 0) ≡ q
@@ -96,10 +92,9 @@ one_more p stages after next is e number ascending held whole = rw e (record {
   number = each_pushed (λ i s. s.stage.0 ≡ i) stages next no_stage is.number number;
   ascending = each_pushed (λ i s. IsAscending s.stage.1) stages next no_stage is.ascending ascending;
   held = each_pushed (λ i s. HoldsPairs p s.stage s.labels) stages next no_stage is.held held;
-  whole = λ i some lt said.
-      let within : i - 1 < length stages = omega (arith, some, lt, length-append stages (next ∷ [])) in
-      rw (get_or_append_left stages (next ∷ []) no_stage (i - 1) within) (each_pushed
-      (λ j s. 0 < j → IsTrue s.is_whole → IsNextOf p (j - 1) (stage_at stages (j - 1)).stage.1 s.stage.1)
+  whole = λ i some lt said. rw (get_or_append_left stages
+      (next ∷ []) no_stage (i - 1) (omega (arith, some, lt, length-append stages (next ∷ []))))
+      (each_pushed (λ j s. 0 < j → IsTrue s.is_whole → IsNextOf p (j - 1) (stage_at stages (j - 1)).stage.1 s.stage.1)
       stages next no_stage (λ j below some said. is.whole j some below said)
       (λ some said. whole (length stages - 1) (omega (arith, some)) said) i lt some said);
 })
@@ -113,12 +108,10 @@ has_candidates p before after m e h each up =
 
 -- no step more leaves a count as it is
 pub raised_by_none : (count : Option ℕ) → FitsCount count → count ≡ raised_by 0 count
-raised_by_none None fits = refl
-raised_by_none (Some n) fits = (let lt = fits n refl in ap Some (omega arith))
+raised_by_none count fits = grind (arith, common_steps)
 
 pub raised_more : (o : Option ℕ) (a b : ℕ) → raised_by b (raised_by a o) ≡ raised_by (a + b) o
-raised_more None a b = refl
-raised_more (Some n) a b = ap Some (omega arith)
+raised_more o a b = grind (arith, common_steps)
 
 -- no stage more
 pub due_none : (first : ℕ) (p : Problem) (n : ℕ) (o : Option ℕ) → n < first → FitsCount o
@@ -127,10 +120,9 @@ due_none first p n o below fits = (0, none_from first p n below, raised_by_none 
 
 -- one stage alone
 pub due_of_one : (p : Problem) (i count : ℕ) → 0 < i → HasCandidates p (i - 1) count → HasCandidatesFrom i p i count
-due_of_one p i count some has =
-    subst (λ n. HasCandidatesFrom i p n count) {x = suc (i - 1)} {y = i} (omega arith)
-    (subst (HasCandidatesFrom i p (suc (i - 1))) {x = 0 + count} {y = count} (omega arith)
-    (more_from i p (i - 1) 0 count (omega arith) (none_from i p (i - 1) (omega arith)) has))
+due_of_one p i count some has = subst (λ n. HasCandidatesFrom i p n count) {x = suc (i - 1)} {y = i}
+    (omega arith) (subst (HasCandidatesFrom i p (suc (i - 1))) {x = 0 + count} {y = count}
+    (omega arith) (more_from i p (i - 1) 0 count (omega arith) (none_from i p (i - 1) (omega arith)) has))
 
 -- no stage is counted where the last is before the first
 none_upto : (first : ℕ) (p : Problem) (n total : ℕ) → n < first → HasCandidatesFrom first p n total → total ≡ 0
@@ -144,10 +136,7 @@ none_upto first p (suc n) total below (count, before, here, rest, e) =
 module _ (first many : ℕ) (p : Problem) (some : 0 < many) (le : first ≤ many) where
   past : (n a b : ℕ) → n < many → many ≤ n + 1 → HasCandidatesFrom first p (many - 1) a → HasCandidatesFrom many p n b
       → HasCandidatesFrom first p n (a + b)
-  past n a b below within early late =
-      let none = none_upto many p n b below late in
-      subst (λ m. HasCandidatesFrom first p m (a + b)) {x = many - 1} {y = n} (omega arith)
-      (subst (HasCandidatesFrom first p (many - 1)) {x = a} {y = a + b} (omega arith) early)
+  past n a b below within early late = search (rules, none_upto)
 
   joined : (n a b : ℕ) → many ≤ n + 1 → HasCandidatesFrom first p (many - 1) a → HasCandidatesFrom many p n b
       → HasCandidatesFrom first p n (a + b)
@@ -155,18 +144,15 @@ module _ (first many : ℕ) (p : Problem) (some : 0 < many) (le : first ≤ many
   joined (suc n) a b within early (count, before, here, rest, e) = elim (cases_lt (suc n) many) [
     | inl below ↦ past (suc n) a b below within early (count, before, here, rest, e)
     | inr from ↦
-        let has : HasCandidates p n count =
-        subst (λ (t : Bool). HasCandidatesIf t p n count) (le-leb many (suc n) from) here in
-        subst (HasCandidatesFrom first p (suc n)) {x = a + before + count} {y = a + b} (omega (arith, e))
-        (more_from first p n (a + before) count (omega (arith, le, from)) (joined n a before (omega (arith, from)) early
-        rest) has)
+        subst (HasCandidatesFrom first p (suc n)) {x = a + before + count} {y = a + b} (omega (arith, e)) (more_from
+        first p n (a + before) count (omega (arith, le, from)) (joined n a before (omega (arith, from)) early rest)
+        (subst (λ (t : Bool). HasCandidatesIf t p n count) (le-leb many (suc n) from) here))
   ]
 
   pub due_joined : (n : ℕ) (o r s : Option ℕ) → many ≤ n + 1 → (due : ℕ) × HasCandidatesFrom first p (many - 1) due
       × (r ≡ raised_by due o) → (due : ℕ) × HasCandidatesFrom many p n due × (s ≡ raised_by due r) → (due : ℕ)
       × HasCandidatesFrom first p n due × (s ≡ raised_by due o)
-  due_joined n o r s within (a, early, e) (b, late, f) =
-      (a + b, joined n a b within early late, f ∙ ap (raised_by b) e ∙ raised_more o a b)
+  due_joined n o r s within (a, early, e) (b, late, f) = search (rules, joined, raised_more)
 
 -- ---- what is read of the stages
 
@@ -181,10 +167,7 @@ held_at p stages is i x e lt = rw e (is.held i lt, is.number i lt)
 pub read_held : (held : Option HeldProblem) (h : HeldProblem) (stages : List LabelledStage) (i : ℕ)
     (x y : LabelledStage) → held ≡ Some h → h.stages ≡ stages → x ≡ y → y ≡ get_or stages i y → IsReadable held i
     → (x.stage ≡ stage_in held i) × (x.labels.lists ≡ lists_in held i)
-read_held held h stages i x y e f same at (some, most) =
-    let low : i ≤ length stages - 1 = rw (e, f) at most in
-    let is = read_stage stages i x y same at (omega arith) in
-    rw (e, f) (ap (λ s. s.stage) is, ap (λ s. s.labels.lists) is)
+read_held held h stages i x y e f same at (some, most) = search (rules, read_stage)
 
 -- the last stage as it is read: its labels have a pair each
 pub record LastRead (p : Problem) (stages : List LabelledStage) (last : LabelledStage) : Type 0 where
@@ -219,8 +202,7 @@ pub whole_at : (p : Problem) (stages : List LabelledStage) → AreStages p stage
     → IsNextOf p earlier.stage.0 earlier.stage.1 before.stage.1
 whole_at p stages is i last earlier before n back e f whole lt =
     let here = (held_at p stages is last before f n).1 in
-    let there = (held_at p stages is i earlier e (omega arith)).1 in
-    rw (there, e, f, back) (is.whole last (omega arith) n (rw f at whole))
+    rw (((held_at p stages is i earlier e (omega arith)).1), e, f, back) (is.whole last (omega arith) n (rw f at whole))
 
 -- ---- stages in common
 
@@ -239,9 +221,8 @@ module _ (p q : Problem) (w : ℕ) (odd : w ≡ 2 * p.k + 1) (laws : WindowLaws 
 
     pub stages_in_common : AreStages q (take count stages)
     stages_in_common =
-        let is = common.1 in
         let e = common.2 in
-        let agree = is.agree (omega arith) in
+        let agree = common.1.agree (omega arith) in
         let same = agree.head.k in
         record {
           number = λ i lt.
@@ -254,15 +235,14 @@ module _ (p q : Problem) (w : ℕ) (odd : w ≡ 2 * p.k + 1) (laws : WindowLaws 
               let at : i < count = omega (arith, lt, long) in
               let here : i < length stages = omega arith in
               let was = holds.held i here in
-              let kept = early common.0 is.within agree _ (let n =
-              holds.number i here in omega arith) in
+              let kept = early common.0 common.1.within agree _ (let n = holds.number i here in omega arith) in
               rw (get_or-take count stages i no_stage at)
               (record { objective = was.objective ∙ agree.head.objective; held = kept_costs p q _ _ kept was.held });
           whole = λ i some lt said.
               let at : i < count = omega (arith, lt, long) in
               rw (get_or-take count stages i no_stage at, get_or-take count stages (i - 1) no_stage (omega arith)) (
-              kept_next p q common.0 is.within agree bp bq w odd (i - 1) _ _ (omega arith) (valid (i - 1) (omega arith))
-              (holds.whole i some (omega arith) (rw (get_or-take count stages i no_stage at) at said)));
+              kept_next p q common.0 common.1.within agree bp bq w odd (i - 1) _ _ (omega arith) (valid (i - 1)
+              (omega arith)) (holds.whole i some (omega arith) (rw (get_or-take count stages i no_stage at) at said)));
         }
 
 -- they are no more than are held

@@ -50,9 +50,8 @@ module _ (stage : ℕ) (windows : List (List ℤ)) (count : ℕ) (places firsts 
           within = each_upto (λ i m. m < length firsts) places place 0 count g.0.long g.0.within inside;
           first = λ j lt. (let a = g.0.first j lt in omega arith);
           own = λ j lt. old_place place _ (g.0.first j lt) ∙ g.0.own j lt;
-          one = each_upto (λ i m. AreOneNode stage (node_at windows (told_at firsts m)) (node_at windows i)) places
-              place 0 count g.0.long g.0.one
-              (seen_one place inside there.here);
+          one = each_upto (λ i m. AreOneNode stage (node_at windows (told_at firsts m)) (node_at windows i))
+              places place 0 count g.0.long g.0.one (seen_one place inside there.here);
           apart = g.0.apart;
         },
         g.1,
@@ -86,15 +85,12 @@ module _ (stage : ℕ) (windows : List (List ℤ)) (count : ℕ) (places firsts 
 
     apart_more : (i : ℕ) → i < length more → (j : ℕ) → j < length more
         → AreOneNode stage (node_at windows (told_at more i)) (node_at windows (told_at more j)) → i ≡ j
-    apart_more = each_pushed (λ i m. (j : ℕ) → j < length more → AreOneNode stage (node_at windows m)
-        (node_at windows (told_at more j)) → i ≡ j) firsts count 0
+    apart_more = each_pushed (λ i m. (j : ℕ) → j < length more
+        → AreOneNode stage (node_at windows m) (node_at windows (told_at more j)) → i ≡ j) firsts count 0
         (λ i a. each_pushed (λ j m. AreOneNode stage (node_at windows (told_at firsts i)) (node_at windows m) → i ≡ j)
-        firsts count 0
-        (λ j b o. g.0.apart i j a b o) (λ o. absurd (differs i a o)))
-        (each_pushed (λ j m. AreOneNode stage (node_at windows count) (node_at windows m) → length firsts ≡ j) firsts
-        count 0
-        (λ j b o. absurd (differs j b (turned _ _ o)))
-        (λ o. refl))
+        firsts count 0 (λ j b o. g.0.apart i j a b o) (λ o. absurd (differs i a o)))
+        (each_pushed (λ j m. AreOneNode stage (node_at windows count) (node_at windows m) → length firsts ≡ j)
+        firsts count 0 (λ j b o. absurd (differs j b (turned _ _ o))) (λ o. refl))
 
     itself : (xs : List ℤ) → AreOneNode stage xs xs
     itself xs = record { placed = λ rank one. (λ p. p, λ p. p); last = refl }
@@ -107,23 +103,19 @@ module _ (stage : ℕ) (windows : List (List ℤ)) (count : ℕ) (places firsts 
             g.0.within i lt in omega (arith, a, one_more)) (omega (arith, one_more));
         first = each_pushed (λ j f. f < count + 1) firsts count 0 (λ j lt. let a = g.0.first j lt in omega (arith, a))
             (omega arith);
-        own = each_pushed (λ j f. told_at (places ++ length firsts ∷ []) f ≡ j) firsts count 0
-            (λ j lt. old_place (length firsts) (told_at firsts j) (g.0.first j lt) ∙ g.0.own j lt)
-            (new_place (length firsts));
+        own = each_pushed (λ j f. told_at (places ++ length firsts ∷ []) f ≡ j) firsts count 0 (λ j lt. old_place
+            (length firsts) (told_at firsts j) (g.0.first j lt) ∙ g.0.own j lt) (new_place (length firsts));
         one = each_upto (λ i m. AreOneNode stage (node_at windows (told_at more m)) (node_at windows i)) places
-            (length firsts) 0 count g.0.long
-            (λ i lt. rw (old_first (told_at places i) (g.0.within i lt)) (g.0.one i lt))
-            (rw new_first (itself (node_at windows count)));
+            (length firsts) 0 count g.0.long (λ i lt. rw (old_first (told_at places i) (g.0.within i lt))
+            (g.0.one i lt)) (rw new_first (itself (node_at windows count)));
         apart = λ i j li lj o. apart_more i li j lj o;
       },
       record {
         one_each = length-append nodes (node ∷ []) ∙ ap (λ (n : ℕ). n + 1) g.1.one_each ∙ sym one_more;
         placed = each_pushed (λ j f. TellsPlaced (node_at windows f) stage (seen_at (nodes ++ node ∷ []) j).placed)
-            firsts count 0
-            (λ j lt. rw (old_seen j lt) (g.1.placed j lt)) (rw new_seen placed);
-        last = each_pushed (λ j f. (seen_at (nodes ++ node ∷ []) j).last ≡ latest (stage, node_at windows f)) firsts
-            count 0
-            (λ j lt. rw (old_seen j lt) (g.1.last j lt)) (rw new_seen last);
+            firsts count 0 (λ j lt. rw (old_seen j lt) (g.1.placed j lt)) (rw new_seen placed);
+        last = each_pushed (λ j f. (seen_at (nodes ++ node ∷ []) j).last ≡ latest (stage, node_at windows f))
+            firsts count 0 (λ j lt. rw (old_seen j lt) (g.1.last j lt)) (rw new_seen last);
       },
     )
 

@@ -98,9 +98,8 @@ abbrev pub pair_in : LabelledStage → ℕ → ℕ → Pair
 pair_in s place index = pair_at (list_at s.labels.lists place) index
 
 abbrev pub Traced : Problem → List LabelledStage → ℕ → ℕ → ℕ → List ℕ → Pair → Type 0
-Traced p stages stage place index order end =
-    CompletesWith p stage (window_in (stage_at stages stage) place) (pair_in (stage_at stages stage) place index)
-    (reverse (drop stage order)) end
+Traced p stages stage place index order end = CompletesWith p stage (window_in (stage_at stages stage) place)
+    (pair_in (stage_at stages stage) place index) (reverse (drop stage order)) end
 
 -- ---- one step of the way back
 

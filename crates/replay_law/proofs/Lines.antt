@@ -1,6 +1,6 @@
 -- Lines that do not begin an answer, with a text behind them that is over or begins one: both texts tell where the
 -- lines end.
-use Rattle.std.proofs.Common.{◌≡◌, ◌≢◌, List, [], ◌∷◌, ◌++◌, refl, sym, ap, ◌∙◌, append_assoc}
+use Rattle.std.proofs.Common.{arith, ◌≡◌, ◌≢◌, List, [], ◌∷◌, ◌++◌, refl, sym, ap, ◌∙◌, append_assoc}
 use Rattle.std.specs.Prelude.{⊤}
 use Rattle.landing_rules.specs.Text.{Bytes, line, lines_text}
 use Rattle.landing_rules.specs.shared.Lines.{IsWithout, first_or, rest_of, cut_same}
@@ -19,19 +19,14 @@ ArePlanLines (l ∷ ls) = (IsWithout 10 l × (first_or 10 l ≢ 101)) × ArePlan
 abbrev pub EndsPlan : Bytes → Type 0
 EndsPlan u = first_or 101 u ≡ 101
 
-first_line : (l x u : Bytes) → first_or 101 ((line l ++ x) ++ u) ≡ first_or 10 l
-first_line [] x u = refl
-first_line (b ∷ l) x u = refl
-
 line_first : (l x u : Bytes) → (line l ++ x) ++ u ≡ l ++ 10 ∷ (x ++ u)
-line_first l x u = append_assoc (line l) x u ∙ append_assoc l (10 ∷ []) (x ++ u)
+line_first l x u = grind (arith, append_assoc)
 
 pub lines_same : (ls ms : List Bytes) (u v : Bytes) → ArePlanLines ls → ArePlanLines ms → EndsPlan u
     → EndsPlan v → lines_text ls ++ u ≡ lines_text ms ++ v → (ls ≡ ms) × (u ≡ v)
 lines_same [] [] u v p q s t e = (refl, e)
-lines_same [] (m ∷ ms) u v p q s t e =
-    absurd (q.0.1 (sym (first_line m (lines_text ms) v) ∙ sym (ap (first_or 101) e) ∙ s))
-lines_same (l ∷ ls) [] u v p q s t e = absurd (p.0.1 (sym (first_line l (lines_text ls) u) ∙ ap (first_or 101) e ∙ t))
+lines_same [] (m ∷ ms) u v p q s t e = grind arith
+lines_same (l ∷ ls) [] u v p q s t e = grind arith
 lines_same (l ∷ ls) (m ∷ ms) u v p q s t e =
     let both = cut_same 10 l m (lines_text ls ++ u) (lines_text ms ++ v) p.0.0 q.0.0
     (sym (line_first l (lines_text ls) u) ∙ e ∙ line_first m (lines_text ms) v) in

@@ -1,7 +1,7 @@
 -- The landings that are shown, in their order, tell the second of each flight, where the callsigns differ.
-use Rattle.std.proofs.Common.{◌≡◌, ℕ, List, [], ◌∷◌, true, false, Option, Some, None, length, refl, sym, ap, ◌∙◌}
-use Rattle.std.proofs.Common.{arith, inl, inr}
-use Rattle.std.specs.Prelude.{map, nat_lt, ⊤, bytes_eq, if◌then◌else◌}
+use Rattle.std.proofs.Common.{◌≡◌, ℕ, List, [], ◌∷◌, true, false, Option, Some, None, length, refl, sym}
+use Rattle.std.proofs.Common.{◌∙◌, arith, inl, inr}
+use Rattle.std.specs.Prelude.{map, ⊤, bytes_eq, if◌then◌else◌}
 use Rattle.std.proofs.lemmas.Bool.{cases_Bool}
 use Rattle.std.proofs.lemmas.Option.{same_Some}
 use Rattle.std.proofs.lemmas.Slice.Eq.{bytes_eq-Decides}
@@ -28,10 +28,7 @@ AreApart (f ∷ fs) = NotAmong f.flight.callsign fs × AreApart fs
 not_in_insert : (c : Callsign) (f : Landing) (fs : List Landing) → bytes_eq f.flight.callsign c ≡ false
     → NotAmong c fs → NotAmong c (insert_landing f fs)
 not_in_insert c f [] h n = (h, tt)
-not_in_insert c f (g ∷ fs) h n = elim (cases_Bool (nat_lt g.second f.second)) [
-  | inl later ↦ rw later (n.0, not_in_insert c f fs h n.1)
-  | inr here ↦ rw here (h, n)
-]
+not_in_insert c f (g ∷ fs) h n = grind (arith, cases_Bool, not_in_insert c f fs h n.1)
 
 not_in_order : (c : Callsign) (fs : List Landing) → NotAmong c fs → NotAmong c (in_landing_order fs)
 not_in_order c [] n = tt
@@ -40,15 +37,7 @@ not_in_order c (f ∷ fs) n = not_in_insert c f (in_landing_order fs) n.0 (not_i
 in_insert : (c : Callsign) (f : Landing) (fs : List Landing) → (bytes_eq f.flight.callsign c ≡ true → NotAmong c fs)
     → second_in c (insert_landing f fs) ≡ second_in c (f ∷ fs)
 in_insert c f [] h = refl
-in_insert c f (g ∷ fs) h = elim (cases_Bool (nat_lt g.second f.second)) [
-  | inr here ↦ rw here refl
-  | inl later ↦
-      let more : second_in c (insert_landing f fs) ≡ second_in c (f ∷ fs) = in_insert c f fs (λ e. (h e).1) in
-      rw later (elim (cases_Bool (bytes_eq f.flight.callsign c)) [
-        | inl own ↦ let other : bytes_eq g.flight.callsign c ≡ false = (h own).0 in rw (other, more, own) refl
-        | inr other ↦ rw (more, other) refl
-      ])
-]
+in_insert c f (g ∷ fs) h = grind (arith, cases_Bool, in_insert c f fs (λ e. (h e).1))
 
 -- of two texts that are one, no landing that has the first has the second
 same_among : (b c : Callsign) (fs : List Landing) → bytes_eq b c ≡ true → NotAmong b fs → NotAmong c fs
@@ -56,9 +45,7 @@ same_among b c fs e n = rw (← (bytes_eq-Decides b c).0 e) n
 
 in_order : (c : Callsign) (fs : List Landing) → AreApart fs → second_in c (in_landing_order fs) ≡ second_in c fs
 in_order c [] h = refl
-in_order c (f ∷ fs) h =
-    in_insert c f (in_landing_order fs) (λ e. not_in_order c fs (same_among f.flight.callsign c fs e h.0)) ∙
-    ap (λ (o : Option ℕ). if bytes_eq f.flight.callsign c then Some f.second else o) (in_order c fs h.1)
+in_order c (f ∷ fs) h = grind (arith, in_insert, not_in_order, same_among, in_order c fs h.1)
 
 none_in : (c : Callsign) (fs : List Landing) → NotAmong c fs → second_in c fs ≡ None
 none_in c [] n = refl
@@ -113,7 +100,4 @@ pub landings_tell : (active : List Active) (t u : Schedule) → AreNamedApart ac
     → length u ≡ length active →
     map shown_landing (in_landing_order (landings active t)) ≡ map shown_landing (in_landing_order (landings active u))
     → t ≡ u
-landings_tell active t u h m n e =
-    same_seconds active t u h m n (λ c.
-    sym (in_order c (landings active t) (apart_landings active t h)) ∙ ap (second_of c) e
-    ∙ in_order c (landings active u) (apart_landings active u h))
+landings_tell active t u h m n e = grind (arith, same_seconds, in_order, apart_landings)

@@ -1,32 +1,23 @@
 -- Two runs of the same files with the same text are one, step by step.
-use Rattle.std.proofs.Common.{◌≡◌, ℕ, zero, suc, ◌+◌, List, [], ◌∷◌, ◌++◌, Option, Some, None, take, refl, sym, ap}
-use Rattle.std.proofs.Common.{subst, ◌∙◌, arith}
+use Rattle.std.proofs.Common.{◌≡◌, ℕ, zero, suc, ◌+◌, List, [], ◌∷◌, take, refl, sym, subst, ◌∙◌, arith}
 use Rattle.std.specs.Prelude.{All, codes}
 use Rattle.std.proofs.lemmas.List.Elements.{All-head, All-tail}
-use Rattle.landing_rules.specs.Events.{Event, Refusal, State, Answered, Run}
+use Rattle.landing_rules.specs.Events.{Event, State, Answered, Run}
 use Rattle.landing_rules.specs.Sound.{IsSoundState, IsGoodEvent}
-use Rattle.landing_rules.specs.Text.{Bytes, answer_text, answers_text}
+use Rattle.landing_rules.specs.Text.{answers_text}
 use Rattle.landing_joint.specs.StepLaws.{StepKeepsSoundLaw}
 use Rattle.replay_law.specs.Runs.{TextLaw}
-use Rattle.landing_rules.specs.shared.Lines.{first_or}
 use Rattle.replay_law.proofs.Lines.{EndsPlan}
 use Rattle.replay_law.proofs.Showable.{ShownLaws}
 use Rattle.replay_law.proofs.Steps.{states_same, steps_same}
 
--- an answer begins with the letter of "event"
-answer_first : (d n : ℕ) (a : Option Refusal) (s : State) (x : Bytes) → first_or d (answer_text n a s ++ x) ≡ 101
-answer_first d n None s x = refl
-answer_first d n (Some r) s x = refl
-
 answers_end : (n : ℕ) (xs : List Answered) → EndsPlan (answers_text n xs)
 answers_end n [] = refl
-answers_end n (x ∷ xs) = answer_first 101 n x.answer x.state (answers_text (n + 1) xs)
+answers_end n (x ∷ xs) = grind arith
 
 -- no answer has no text
 some_text : (n : ℕ) (x : Answered) (xs : List Answered) → [] ≡ answers_text n (x ∷ xs) → ⊥
-some_text n x xs e =
-    let first : 0 ≡ 101 = ap (first_or 0) e ∙ answer_first 0 n x.answer x.state (answers_text (n + 1) xs) in
-    omega (arith, first)
+some_text n x xs e = grind arith
 
 answers_same : ShownLaws → StepKeepsSoundLaw → (old : State) (events : List Event) (m n number : ℕ)
     (xs ys : List Answered) → IsSoundState old → All IsGoodEvent events →

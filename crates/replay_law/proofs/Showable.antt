@@ -1,11 +1,9 @@
 -- A sound situation and its plan can be told from what is printed: callsigns are names and differ, and the numbers are
 -- small.
-use Rattle.std.proofs.Common.{◌≡◌, ◌≢◌, ℕ, ◌<◌, List, [], ◌∷◌, true, false, Option, Some, None, length, refl, sym}
-use Rattle.std.proofs.Common.{arith}
-use Rattle.std.specs.Prelude.{◌&&◌, nat_le, option_map, All, AllPairs, bytes_eq}
+use Rattle.std.proofs.Common.{◌≡◌, ◌≢◌, ℕ, ◌<◌, List, [], ◌∷◌, true, false, Option, Some, None, refl, arith}
+use Rattle.std.specs.Prelude.{option_map, All, AllPairs, bytes_eq}
 use Rattle.std.specs.List.{list_all}
 use Rattle.std.proofs.lemmas.Bool.{and_parts, false_from_ne_true}
-use Rattle.std.proofs.lemmas.Bool.Decides.{nat_tests}
 use Rattle.std.proofs.lemmas.Grind.{common_steps}
 use Rattle.std.proofs.lemmas.List.Elements.{All-head, All-tail}
 use Rattle.std.proofs.lemmas.Slice.Eq.{bytes_eq-Decides}
@@ -21,14 +19,14 @@ use Rattle.replay_law.proofs.PlanTells.{NotNamed, AreNamedApart}
 -- ---- callsigns are names
 
 byte_high : (b : ℕ) → is_callsign_byte b ≡ true → 32 < b
-byte_high b e = grind (arith, nat_tests, common_steps)
+byte_high b e = grind (arith, common_steps)
 
 bytes_name : (c : Callsign) → list_all is_callsign_byte c ≡ true → IsName c
 bytes_name [] h = tt
 bytes_name (b ∷ c) h = (byte_high b ((and_parts _ _ h).0), bytes_name c ((and_parts _ _ h).1))
 
 callsign_name : (c : Callsign) → is_callsign c ≡ true → IsName c
-callsign_name c h = bytes_name c ((and_parts (nat_le 2 (length c) && nat_le (length c) 8) _ h).1)
+callsign_name c h = grind (arith, bytes_name, and_parts)
 
 -- ---- what is shown of a sound state
 
@@ -50,7 +48,7 @@ plan_showable law s (Some t) h k =
 -- ---- callsigns differ
 
 differs : (a b : Callsign) → a ≢ b → bytes_eq b a ≡ false
-differs a b other = false_from_ne_true (bytes_eq b a) (λ same. other (sym ((bytes_eq-Decides b a).0 same)))
+differs a b other = grind (arith, false_from_ne_true, bytes_eq-Decides)
 
 abbrev Apart : Active → Active → Type 0
 Apart a b = a.flight.callsign ≢ b.flight.callsign

@@ -1,12 +1,11 @@
 -- The text of one answer tells the state after it, where the state before it and the event are known.
-use Rattle.std.proofs.Common.{◌≡◌, ℕ, [], ◌∷◌, ◌++◌, Option, Some, None, refl, sym, ap, subst, ◌∙◌, append_assoc}
+use Rattle.std.proofs.Common.{arith, ◌≡◌, ℕ, ◌∷◌, ◌++◌, Option, Some, None, refl, ap, append_assoc}
 use Rattle.std.specs.Prelude.{option_map}
 use Rattle.std.proofs.lemmas.Option.{same_Some}
 use Rattle.landing_rules.specs.Flights.{Situation, Schedule}
 use Rattle.landing_rules.specs.Events.{Event, Refusal, State, IsPlanShown, Step}
 use Rattle.landing_rules.specs.Sound.{IsSound, IsSoundState}
-use Rattle.landing_rules.specs.Text.{Bytes, line, lines_text, ShownPlan, shown_plan, block_text, plan_lines}
-use Rattle.landing_rules.specs.Text.{accepted_words, refused_words, answer_text}
+use Rattle.landing_rules.specs.Text.{Bytes, lines_text, ShownPlan, shown_plan, block_text, plan_lines, answer_text}
 use Rattle.replay_law.proofs.Lines.{cancel, EndsPlan}
 use Rattle.replay_law.proofs.BlockLines.{block_same}
 use Rattle.replay_law.proofs.PlanTells.{landings_tell}
@@ -28,42 +27,16 @@ texts_same : ShownLaws → (s : Situation) (p q : Option Schedule) (u v : Bytes)
     → IsPlanShown s p → IsPlanShown s q → EndsPlan u → EndsPlan v →
     block_text s.aerodrome.objective (option_map (shown_plan s) p)
     ++ u ≡ block_text s.aerodrome.objective (option_map (shown_plan s) q) ++ v → (p ≡ q) × (u ≡ v)
-texts_same laws s p q u v h m n a b e =
-    let both = block_same laws.0 s.aerodrome.objective (option_map (shown_plan s) p) (option_map (shown_plan s) q) u v
-    (plan_showable laws.1 s p h m) (plan_showable laws.1 s q h n) a b e in
-    (plan_same s p q h m n both.0, both.1)
+texts_same laws s p q u v h m n a b e = grind (arith, block_same, plan_showable, plan_same)
 
 -- sound states with one situation and the same text are one, behind a line that both have
 pub states_same : ShownLaws → (s t : State) (front u v : Bytes) → IsSoundState s → IsSoundState t
     → s.situation ≡ t.situation → EndsPlan u → EndsPlan v →
     lines_text (front ∷ plan_lines s) ++ u ≡ lines_text (front ∷ plan_lines t) ++ v → (s ≡ t) × (u ≡ v)
-states_same laws s t front u v h k same a b e =
-    let P : Situation → Type 0 = λ c. IsPlanShown c t.plan → lines_text (plan_lines s)
-    ++ u ≡ block_text c.aerodrome.objective (option_map (shown_plan c) t.plan) ++ v → (s.plan ≡ t.plan) × (u ≡ v) in
-    let tells : P t.situation =
-    subst P same (λ shown text. texts_same laws s.situation s.plan t.plan u v h.situation h.shown shown a b text) in
-    let texts : lines_text (plan_lines s) ++ u ≡ lines_text (plan_lines t) ++ v =
-    cancel (line front) _ _ (sym (append_assoc (line front) (lines_text (plan_lines s)) u)
-    ∙ e ∙ append_assoc (line front) (lines_text (plan_lines t)) v) in
-    let both = tells k.shown texts in
-    let plans = both.0 in
-    ((λ i. record { situation = same i; plan = plans i }), both.1)
+states_same laws s t front u v h k same a b e = grind (arith, texts_same, cancel, append_assoc)
 
 -- two steps from one state by one event, with the same text
 pub steps_same : ShownLaws → (old : State) (event : Event) (n : ℕ) (a b : Option Refusal) (s t : State) (u v : Bytes)
     → IsSoundState s → IsSoundState t → Step old event a s → Step old event b t → EndsPlan u → EndsPlan v →
     answer_text n a s ++ u ≡ answer_text n b t ++ v → (a ≡ b) × (s ≡ t) × (u ≡ v)
-steps_same laws old event n None None s t u v h k p q i j e =
-    let both = states_same laws s t (accepted_words n) u v h k (p.effect.changed ∙ sym q.effect.changed) i j e in
-    (refl, both.0, both.1)
-steps_same laws old event n None (Some r) s t u v h k p q i j e = absurd (cc (p.answered, q.answered))
-steps_same laws old event n (Some r) None s t u v h k p q i j e = absurd (cc (p.answered, q.answered))
-steps_same laws old event n (Some r) (Some z) s t u v h k p q i j e =
-    let answers : Some r ≡ Some z = p.answered ∙ sym q.answered in
-    let words : lines_text (refused_words n r ∷ []) ≡ lines_text (refused_words n z ∷ []) =
-    ap (λ (x : Refusal). lines_text (refused_words n x ∷ [])) (same_Some r z answers) in (
-      answers,
-      p.effect ∙ sym q.effect,
-      cancel (lines_text (refused_words n z ∷ [])) u v
-          (ap (λ (x : Bytes). x ++ u) (sym words) ∙ e),
-    )
+steps_same laws old event n a b s t u v h k p q i j e = grind (arith, states_same, same_Some, cancel)

@@ -11,9 +11,8 @@ pub answers-push : (planned : List Planned) (a : Planned) → answers_of (planne
     ++ a.answered ∷ []
 answers-push planned a = map-append (λ (b : Planned). b.answered) planned (a ∷ [])
 
-pub planned-push : (held : Problem) (planned : List Planned) (a : Planned) → ArePlanned held planned
-    → IsPlanned (last_problem held planned) a →
-    ArePlanned held (planned ++ a ∷ [])
+pub planned-push : (held : Problem) (planned : List Planned) (a : Planned)
+    → ArePlanned held planned → IsPlanned (last_problem held planned) a → ArePlanned held (planned ++ a ∷ [])
 planned-push held [] a are is = (is, tt)
 planned-push held (b ∷ rest) a are is = (are.0, planned-push b.problem rest a are.1 is)
 
@@ -25,9 +24,8 @@ last_problem-push held (b ∷ rest) a = last_problem-push b.problem rest a
 pub steps-push : (planned : List Planned) (a : Planned) → steps_of (planned ++ a ∷ []) ≡ steps_of planned + a.steps
 steps-push planned a = sum_by_push (λ (b : Planned). b.steps) planned a
 
-pub lines-push : (i : ℕ) (planned : List Planned) (a : Planned) →
-    answer_lines i (planned ++ a ∷ []) ≡ answer_lines i planned
-    ++ answer_line (i + length planned) a.answered.answer a.steps
+pub lines-push : (i : ℕ) (planned : List Planned) (a : Planned) → answer_lines i (planned ++ a ∷ [])
+    ≡ answer_lines i planned ++ answer_line (i + length planned) a.answered.answer a.steps
 lines-push i [] a = append-nil (answer_line i a.answered.answer a.steps)
     ∙ ap (λ n. answer_line n a.answered.answer a.steps) (omega arith)
 lines-push i (b ∷ rest) a =

@@ -43,9 +43,8 @@ pub record Done (old : Standing AnyKept) (events : List Event) (from : SinkState
   pub few : total ≤ length done * most_steps
   pub written : Wrote (length done) from to (answer_lines 1 plannings.planned)
 
-pub begins : (old : Standing AnyKept) (events : List Event) (from : SinkState) → Holds old.planner old.problem
-    → from.puts < 2 ^ 64 →
-    Done old events from 1 old events from 0
+pub begins : (old : Standing AnyKept) (events : List Event) (from : SinkState)
+    → Holds old.planner old.problem → from.puts < 2 ^ 64 → Done old events from 1 old events from 0
 begins old events from held fits = record {
   done = [];
   split = refl;
@@ -66,8 +65,7 @@ abbrev pub one_more : (new : Standing AnyKept) (i : ℕ) (e : Event) (now : Stan
     → Type 0) → PlansWith now new i e steps P → Planned
 one_more new i e now steps P a = record {
   answered = record { answer = a.answer; state = new.state };
-  problem =
-      new.problem;
+  problem = new.problem;
   steps = steps;
 }
 
@@ -98,9 +96,8 @@ lines_longer i planned a e = ap (λ (n : ℕ). answer_lines 1 planned ++ answer_
     ∙ sym (lines-push 1 planned a)
 
 pub goes_on : (old now new : Standing AnyKept) (events : List Event) (from to to2 : SinkState)
-    (i total : ℕ) (e : Event) (rest : List Event) (steps : ℕ) →
-    Done old events from i now (e ∷ rest) to total → PlansWith now new i e steps (Wrote 1 to to2)
-    → Done old events from (i + 1) new rest to2 (total + steps)
+    (i total : ℕ) (e : Event) (rest : List Event) (steps : ℕ) → Done old events from i now (e ∷ rest) to total
+    → PlansWith now new i e steps (Wrote 1 to to2) → Done old events from (i + 1) new rest to2 (total + steps)
 unfolding longer
 goes_on old now new events from to to2 i total e rest steps d a =
     let one : Planned = one_more new i e now steps (Wrote 1 to to2) a in
@@ -192,9 +189,8 @@ ends old now events from to i total d =
 
 -- ---- a refused event
 
-refused_by : (o : Option Refusal) (old new : Standing AnyKept) (i : ℕ) (e : Event) (P : Bytes → Type 0)
-    → (o ≡ None → ⊥) →
-    MatchOption o ⊤ (λ answer. Plans old new e (Some answer) 0) → P (refused_text i o) → PlansWith old new i e 0 P
+refused_by : (o : Option Refusal) (old new : Standing AnyKept) (i : ℕ) (e : Event) (P : Bytes → Type 0) → (o ≡ None → ⊥)
+    → MatchOption o ⊤ (λ answer. Plans old new e (Some answer) 0) → P (refused_text i o) → PlansWith old new i e 0 P
 refused_by None old new i e P never plans written = absurd (never refl)
 refused_by (Some answer) old new i e P never plans written =
     record { answer = Some answer; plans = plans; written = written }
@@ -222,14 +218,12 @@ effort_of old events opening of opened few plannings =
       problem_of = of;
       opening = opening;
       opened = opened;
-      few =
-          few;
+      few = few;
       plannings = plannings;
     }
 
 module _ (old : Standing AnyKept) (events : List Event) (opening : ℕ) (of : IsProblemOf old.state.situation old.problem)
-    (opened : IsDue None old.problem opening)
-    (few : opening ≤ most_steps) where
+    (opened : IsDue None old.problem opening) (few : opening ≤ most_steps) where
   -- the opening's line, and those of the first events
   counts : (puts : ℕ) (text : Bytes) → LinesStand old events puts text
       → EffortStands old.state events (1 + puts) (begun_line opening ++ text)
@@ -259,9 +253,8 @@ module _ (old : Standing AnyKept) (events : List Event) (opening : ℕ) (of : Is
     whole = [];
     last = begun_line opening;
     stood = inl (refl, refl);
-    begun =
-        subst (EffortStands old.state events 1) (append-nil (begun_line opening))
-        (counts 0 [] (none_yet 0 [] refl refl));
+    begun = subst
+        (EffortStands old.state events 1) (append-nil (begun_line opening)) (counts 0 [] (none_yet 0 [] refl refl));
     written = w;
   }
   stops_at_once stop.NoMemory new from to w = inl w
@@ -284,21 +277,18 @@ module _ (old : Standing AnyKept) (events : List Event) (opening : ℕ) (of : Is
         (counts (some.puts + 1) (some.whole ++ some.last) some.begun));
     written = part_after 1 some.puts from mid to (begun_line opening) some.whole some.last w some.written;
   }
-  stops_after stop.NoMemory new from mid to w (puts, text, lines, some) =
-      inr (record {
-        puts = 1 + puts;
-        text = begun_line opening ++ text;
-        few = omega (arith, ap length lines.split, length-append lines.done lines.rest, lines.count);
-        stood = counts puts text lines;
-        written = wrote_after 1 puts from mid to (begun_line opening) text w some;
-      })
+  stops_after stop.NoMemory new from mid to w (puts, text, lines, some) = inr (record {
+    puts = 1 + puts;
+    text = begun_line opening ++ text;
+    few = omega (arith, ap length lines.split, length-append lines.done lines.rest, lines.count);
+    stood = counts puts text lines;
+    written = wrote_after 1 puts from mid to (begun_line opening) text w some;
+  })
 
   -- and the last line was not
   pub stops_last : (s : Stop) (new : Standing AnyKept) (total : ℕ) (from mid late to : SinkState)
-      → Wrote 1 from mid (begun_line opening) →
-      AllPlan old new events total mid late
-      → PutsText (total_line (opening + total)) late to (Err s)
-      → EffortEnds old.state new.state events from to (Err s)
+      → Wrote 1 from mid (begun_line opening) → AllPlan old new events total mid late
+      → PutsText (total_line (opening + total)) late to (Err s) → EffortEnds old.state new.state events from to (Err s)
   stops_last s new total from mid late to w all last = go s last
     where
       lines : Bytes
@@ -344,10 +334,8 @@ module _ (old : Standing AnyKept) (events : List Event) (opening : ℕ) (of : Is
 
   -- all was written
   pub ends_whole : (new : Standing AnyKept) (total : ℕ) (from mid late to : SinkState)
-      → Wrote 1 from mid (begun_line opening) →
-      AllPlan old new events total mid late →
-      Wrote 1 late to (total_line (opening + total))
-      → EffortTells old.state events new.state from to
+      → Wrote 1 from mid (begun_line opening) → AllPlan old new events total mid late
+      → Wrote 1 late to (total_line (opening + total)) → EffortTells old.state events new.state from to
   ends_whole new total from mid late to w all last =
       let planned = all.plannings.planned in
       let lines = begun_line opening ++ answer_lines 1 planned in

@@ -18,15 +18,13 @@ module _ (s t : Situation) (held other p q : Problem) (h : IsProblemOf s held) (
 -- the steps of one planning
 one_planned : (s : Situation) (held other : Problem) → IsProblemOf s held → IsProblemOf s other → (x y : Planned)
     → IsPlanned held x → IsPlanned other y → x.answered ≡ y.answered → x.steps ≡ y.steps
-one_planned s held other h i x y a b e =
-    one_taken s x.answered.state.situation held other x.problem y.problem h i a.problem_of (rw (← e) at b.problem_of)
-    x.answered.answer x.steps y.steps a.steps (rw (← e) at b.steps)
+one_planned s held other h i x y a b e = one_taken s x.answered.state.situation held other x.problem y.problem
+    h i a.problem_of (rw (← e) at b.problem_of) x.answered.answer x.steps y.steps a.steps (rw (← e) at b.steps)
 
 -- the steps of all, and their lines
-one_lines : (s : Situation) (held other : Problem) → IsProblemOf s held → IsProblemOf s other
-    → (n : ℕ) (xs ys : List Planned)
-    → ArePlanned held xs → ArePlanned other ys → answers_of xs ≡ answers_of ys → (answer_lines n xs ≡ answer_lines n ys)
-    × (steps_of xs ≡ steps_of ys)
+one_lines : (s : Situation) (held other : Problem) → IsProblemOf s held
+    → IsProblemOf s other → (n : ℕ) (xs ys : List Planned) → ArePlanned held xs → ArePlanned other ys
+    → answers_of xs ≡ answers_of ys → (answer_lines n xs ≡ answer_lines n ys) × (steps_of xs ≡ steps_of ys)
 one_lines s held other h i n [] [] a b e = (refl, refl)
 one_lines s held other h i n [] (y ∷ ys) a b e = absurd (cc e)
 one_lines s held other h i n (x ∷ xs) [] a b e = absurd (cc e)

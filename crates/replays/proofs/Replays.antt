@@ -28,20 +28,18 @@ StepWrites old new i e from to r = Answers old new i e (λ text. PutsText text f
     ⊎ ((to ≡ from) × (r ≡ Err stop.NoMemory))
 
 -- an event was refused, or memory ran out
-refused : (old new : State) (i : ℕ) (e : Event) (from to : SinkState) (r : Result (Unit {0}) Stop)
-    (found : Option Refusal) →
-    MatchOption found ⊤ (λ a. Step old e (Some a) new) →
-    MatchOption found ((to ≡ from) × (r ≡ Err stop.NoMemory)) (λ a. PutsText (answer_text i (Some a) new) from to r) →
-    StepWrites old new i e from to r
+refused : (old new : State) (i : ℕ) (e : Event) (from to : SinkState)
+    (r : Result (Unit {0}) Stop) (found : Option Refusal) → MatchOption found ⊤ (λ a. Step old e (Some a) new)
+    → MatchOption found ((to ≡ from) × (r ≡ Err stop.NoMemory)) (λ a. PutsText (answer_text i (Some a) new) from to r)
+    → StepWrites old new i e from to r
 refused old new i e from to r None step put = inr put
 refused old new i e from to r (Some a) step put = inl (record { answer = Some a; step = step; written = put })
 
 -- an event was tried, and what came of it is put
-pub tried : (old new : State) (i : ℕ) (e : Event) (from to : SinkState) (r : Result (Unit {0}) Stop)
-    (outcome : Result (Unit {0}) code.Refusal) →
-    OnOk outcome (Step old e None new)
-    → IfErr outcome (λ fault. MatchOption (refusal_of fault) ⊤ (λ a. Step old e (Some a) new)) →
-    PutsAnswer new i outcome from to r → StepWrites old new i e from to r
+pub tried : (old new : State) (i : ℕ) (e : Event) (from to : SinkState)
+    (r : Result (Unit {0}) Stop) (outcome : Result (Unit {0}) code.Refusal) → OnOk outcome (Step old e None new)
+    → IfErr outcome (λ fault. MatchOption (refusal_of fault) ⊤ (λ a. Step old e (Some a) new))
+    → PutsAnswer new i outcome from to r → StepWrites old new i e from to r
 tried old new i e from to r (Ok u) accepted fault put = inl (record { answer = None; step = accepted; written = put })
 tried old new i e from to r (Err found) accepted fault put = refused old new i e from to r (refusal_of found) fault put
 
@@ -73,16 +71,14 @@ begins old events from to w = record {
 
 text_longer : (old : State) (i : ℕ) (answers : List Answered) (a : Answered) → i ≡ 1 + length answers
     → replay_text old answers ++ answer_text i a.answer a.state ≡ replay_text old (answers ++ a ∷ [])
-text_longer old i answers a e =
-    append_assoc (begun_text old) (answers_text 1 answers) (answer_text i a.answer a.state)
+text_longer old i answers a e = append_assoc (begun_text old) (answers_text 1 answers) (answer_text i a.answer a.state)
     ∙ ap (λ (t : Bytes). begun_text old ++ t)
     (ap (λ (n : ℕ). answers_text 1 answers ++ answer_text n a.answer a.state) e ∙ sym (answers_text-push 1 answers a))
 
 -- the run with one more event
-longer : (old state new : State) (events : List Event) (from to : SinkState) (i : ℕ) (e : Event)
-    (rest : List Event) (P : Bytes → Type 0) (d : Done old events from i state (e ∷ rest) to)
-    (a : Answers state new i e P) →
-    ReplayStands old events ((1 + length d.done) + 1) (replay_text old d.answers ++ answer_text i a.answer new)
+longer : (old state new : State) (events : List Event) (from to : SinkState) (i : ℕ) (e : Event) (rest : List Event)
+    (P : Bytes → Type 0) (d : Done old events from i state (e ∷ rest) to) (a : Answers state new i e P)
+    → ReplayStands old events ((1 + length d.done) + 1) (replay_text old d.answers ++ answer_text i a.answer new)
 longer old state new events from to i e rest P d a =
     let one : Answered = record { answer = a.answer; state = new } in
     record {
@@ -91,15 +87,13 @@ longer old state new events from to i e rest P d a =
       split = append_assoc d.done (e ∷ []) rest ∙ d.split;
       count = omega (arith, length-append d.done (e ∷ []));
       answers = d.answers ++ one ∷ [];
-      run = Run-push old d.done d.answers e one d.run
-          (subst (λ (s : State). Step s e a.answer new) d.last a.step);
+      run = Run-push old d.done d.answers e one d.run (subst (λ (s : State). Step s e a.answer new) d.last a.step);
       prints = text_longer old i d.answers one d.number;
     }
 
-pub goes_on : (old state new : State) (events : List Event) (from to to2 : SinkState) (i : ℕ)
-    (e : Event) (rest : List Event) (u : Unit {0}) →
-    Done old events from i state (e ∷ rest) to → StepWrites state new i e to to2 (Ok u)
-    → Done old events from (i + 1) new rest to2
+pub goes_on : (old state new : State) (events : List Event) (from to to2 : SinkState)
+    (i : ℕ) (e : Event) (rest : List Event) (u : Unit {0}) → Done old events from i state (e ∷ rest) to
+    → StepWrites state new i e to to2 (Ok u) → Done old events from (i + 1) new rest to2
 unfolding longer
 goes_on old state new events from to to2 i e rest u d (inr none) = absurd (cc none.1)
 goes_on old state new events from to to2 i e rest u d (inl a) =

@@ -74,10 +74,9 @@ seconds_apart s sound i j d lt within same =
 -- in any order in which their seconds do not fall, the frozen landings are in landing order
 pub frozen_in_order : (s : Situation) → IsSound s → (sorted : List ShownLanding)
     → IsPermutation (map shown_landing (frozen_landings s)) sorted → Climbs second sorted → sorted ≡ frozen_shown s
-frozen_in_order s sound sorted permuted climbs =
-    one_order second (map shown_landing fs) sorted (frozen_shown s) (once (map second (map shown_landing fs)) differ)
-    permuted (IsPermutation-map shown_landing fs (in_landing_order fs) (order_permutes fs)) climbs
-    (climbs_map shown_landing second (in_landing_order fs) (order_rises fs))
+frozen_in_order s sound sorted permuted climbs = one_order second (map shown_landing fs) sorted (frozen_shown s)
+    (once (map second (map shown_landing fs)) differ) permuted (IsPermutation-map shown_landing fs (in_landing_order fs)
+    (order_permutes fs)) climbs (climbs_map shown_landing second (in_landing_order fs) (order_rises fs))
   where
     fs : List Landing
     fs = frozen_landings s
@@ -115,8 +114,7 @@ kept_landings : (h : ℕ) (xs : List Active) (ts : Schedule) → length ts ≡ l
 kept_landings h [] [] e keeps = refl
 kept_landings h [] (t ∷ ts) e keeps = absurd (omega arith)
 kept_landings h (x ∷ xs) [] e keeps = absurd (omega arith)
-kept_landings h (x ∷ xs) (t ∷ ts) e keeps =
-    go x.frozen (All-head (IsFrozenKept h) (landing x t) (landings xs ts) keeps)
+kept_landings h (x ∷ xs) (t ∷ ts) e keeps = go x.frozen (All-head (IsFrozenKept h) (landing x t) (landings xs ts) keeps)
     (kept_landings h xs ts (omega arith) (All-tail (IsFrozenKept h) (landing x t) (landings xs ts) keeps))
   where
     go : (o : Option ℕ) → MatchOption o (h ≤ t) (λ u. t ≡ u) → filter (λ f. not (waits f)) (landings xs ts)
@@ -161,9 +159,8 @@ module _ (s : Situation) (t : Schedule) (sound : IsSound s) (keeps : IsFeasible 
       let parts : IsPermutation all (filter (λ f. not (waits f)) all ++ filter waits all) = IsPermutation-filter_both
       (λ f. not (waits f)) waits (λ f. sym (not-not (waits f))) all in
       let shown : IsPermutation (map shown_landing all) (map shown_landing fs ++ map shown_landing (filter waits all)) =
-      rw (ap (λ fs. map shown_landing (fs ++ filter waits all)) held
-      ∙ map-append shown_landing fs _) at (IsPermutation-map shown_landing all
-      (filter (λ f. not (waits f)) all ++ filter waits all) parts) in
+      rw (ap (λ fs. map shown_landing (fs ++ filter waits all)) held ∙ map-append shown_landing fs _) at
+      (IsPermutation-map shown_landing all (filter (λ f. not (waits f)) all ++ filter waits all) parts) in
       let each : IsPermutation (map shown_landing fs ++ map shown_landing (filter waits all))
       (frozen_shown s ++ waiting) =
       IsPermutation-append (map shown_landing fs) (frozen_shown s) (map shown_landing _) waiting
@@ -217,10 +214,9 @@ ranked_seconds s u apart e =
     let m = length-map R (joined_second s u) in
     same_number_lists (map (joined_second s u) R) u (omega arith) (λ k lt.
     let within : k < length R = omega arith in
-    get_or-map (joined_second s u) R k nobody 0 within
-    ∙ ap (λ o. unwrap_or o (get_or u (rank_in s apart (get_or R k nobody)) 0)) (ranked_waits s apart k within)
-    ∙ ap (λ r. get_or u r 0) (rank_at s apart k (get_or R k nobody) within
-    (get_or_default R k (get_or R k nobody) nobody within)))
+    get_or-map (joined_second s u) R k nobody 0 within ∙ ap (λ o. unwrap_or o
+    (get_or u (rank_in s apart (get_or R k nobody)) 0)) (ranked_waits s apart k within) ∙ ap (λ r. get_or u r 0)
+    (rank_at s apart k (get_or R k nobody) within (get_or_default R k (get_or R k nobody) nobody within)))
 
 -- those of the waiting flights where the seconds by rank are joined with the frozen ones
 pub waiting_shown : (s : Situation) (u : Schedule) → IsSound s → length u ≡ length (waiting s)
@@ -297,8 +293,7 @@ begins s t sound keeps = ap (map frozen_there) (front_is s t sound keeps) ∙ fr
 module _ (g : Landing → Landing) (same : (f : Landing) → (g f).second ≡ f.second) where
   insert_map : (f : Landing) (fs : List Landing) → insert_landing (g f) (map g fs) ≡ map g (insert_landing f fs)
   insert_map f [] = refl
-  insert_map f (x ∷ xs) =
-      ap₂ (λ a b. cond (nat_lt a b) (g x ∷ insert_landing (g f) (map g xs)) (g f ∷ g x ∷ map g xs))
+  insert_map f (x ∷ xs) = ap₂ (λ a b. cond (nat_lt a b) (g x ∷ insert_landing (g f) (map g xs)) (g f ∷ g x ∷ map g xs))
       (same x) (same f) ∙ go (nat_lt x.second f.second) (insert_map f xs)
     where
       go : (b : Bool) → insert_landing (g f) (map g xs) ≡ map g (insert_landing f xs) →
@@ -365,9 +360,8 @@ next_begins law s t (Estimate c eta windows) sound keeps ok next = still s
 next_begins law s t (Cancel c) sound keeps ok next = still s
     (record s { active = filter (λ a. not (named c a)) s.active }) t
     (frozen_cancelled c s.active (named_waits s c sound ok)) (begins s t sound keeps)
-next_begins law s t (Add f) sound keeps ok next =
-    still s (record s { active = s.active ++ newcomer f ∷ [] }) t
-    (filter_map-append (λ a. option_map _ a.frozen) s.active (newcomer f ∷ [])
-    ∙ append-nil (frozen_landings s)) (begins s t sound keeps)
+next_begins law s t (Add f) sound keeps ok next = still s (record s { active = s.active ++ newcomer f ∷ [] }) t
+    (filter_map-append (λ a. option_map _ a.frozen) s.active (newcomer f ∷ []) ∙ append-nil (frozen_landings s))
+    (begins s t sound keeps)
 next_begins law s t (Clock now) sound keeps ok next = clock_begins law s t now sound keeps ok next
 next_begins law s t e sound keeps ok next = begins s t sound keeps

@@ -36,11 +36,9 @@ use Rattle.sequencer.proofs.ProblemOf.{zip_all}
 counts : (f : Flight) (l : List Active) → count_by (λ p. is_lt (first_come_cmp p (f.eta, f.callsign)))
     (map arrival_of l) ≡ count_by (λ g. is_lt (arrival_cmp g f)) (map (λ (b : Active). b.flight) l)
 counts f [] = refl
-counts f (a ∷ l) =
-    sum_by-cons (λ p. cond {A = ℕ} (is_lt (first_come_cmp p (f.eta, f.callsign))) 1 0) (arrival_of a) (map arrival_of l)
-    ∙ ap (λ n. cond {A = ℕ} (is_lt (arrival_cmp a.flight f)) 1 0 + n) (counts f l)
-    ∙ sym (sum_by-cons (λ g. cond {A = ℕ} (is_lt (arrival_cmp g f)) 1 0) a.flight
-    (map (λ b. b.flight) l))
+counts f (a ∷ l) = sum_by-cons (λ p. cond {A = ℕ} (is_lt (first_come_cmp p (f.eta, f.callsign))) 1 0)
+    (arrival_of a) (map arrival_of l) ∙ ap (λ n. cond {A = ℕ} (is_lt (arrival_cmp a.flight f)) 1 0 + n) (counts f l)
+    ∙ sym (sum_by-cons (λ g. cond {A = ℕ} (is_lt (arrival_cmp g f)) 1 0) a.flight (map (λ b. b.flight) l))
 
 place_is : (s : Situation) (f : Flight) → count_by (λ p. is_lt (first_come_cmp p (f.eta, f.callsign)))
     (map arrival_of (by_rank (waiting s))) ≡ rank (map (λ (b : Active). b.flight) (waiting s)) f - 1
@@ -80,8 +78,7 @@ set_map {X = X} {Y = Y} f g (x ∷ xs) zero y others here = ap₂ (λ z l. z ∷
         → map f xs ≡ map g xs
     each [] h = refl
     each (x ∷ xs) h = ap₂ (λ z l. z ∷ l) (h 0 x (omega arith)) (each xs (λ i d lt. h (suc i) d (omega arith)))
-set_map {Y = Y} f g (x ∷ xs) (suc p) y others here =
-    ap₂ (λ z l. z ∷ l) (others 0 x (omega arith) (omega arith))
+set_map {Y = Y} f g (x ∷ xs) (suc p) y others here = ap₂ (λ z l. z ∷ l) (others 0 x (omega arith) (omega arith))
     (set_map f g xs p y (λ i d lt ne. others (suc i) d (omega arith) (omega arith)) (λ d lt. here d (omega arith)))
 
 none_is : (o : Option ℕ) → is_none o ≡ true → o ≡ None

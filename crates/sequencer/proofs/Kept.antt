@@ -22,9 +22,8 @@ feasible_shown s (Some u) h t e = rw (same_Some u t e) at h.0.feasible
 
 pub next_sound : EventKeepsSoundLaw → (old : State) (e : Event) (next : Situation) → IsSoundState old
     → IsGoodEvent e → refusal old.situation e ≡ None → next ≡ situation_after old.situation old.plan e → IsSound next
-next_sound law old e next sound good accepted is =
-    rw is (law old.situation old.plan e sound.situation good
-    (feasible_shown old.situation old.plan sound.shown) accepted)
+next_sound law old e next sound good accepted is = rw is
+    (law old.situation old.plan e sound.situation good (feasible_shown old.situation old.plan sound.shown) accepted)
 
 pub next_in_step : EventKeepsSoundLaw → (old : State) (plan : Option ShownPlan) (p : Problem) (k : ℕ) (e : Event)
     (next : Situation) (schedule : Option Schedule) (shown : Option ShownPlan) (q : Problem) (j : ℕ) → IsInStep old plan
@@ -52,7 +51,6 @@ next_front law old shown p k e next plan h accepted is sound seen =
     front : (t : Option Schedule) → IsPlanShown old.situation t → option_map (shown_plan old.situation) t ≡ Some plan
         → IsSound (situation_after old.situation t e) → BeginsWithFrozen (situation_after old.situation t e) plan
     front None best e sound = let w : None ≡ Some plan = e in absurd (cc)
-    front (Some t) best q sound =
-        subst (BeginsWithFrozen (situation_after old.situation (Some t) e))
-        (same_Some (shown_plan old.situation t) plan q)
+    front (Some t) best q sound = subst
+        (BeginsWithFrozen (situation_after old.situation (Some t) e)) (same_Some (shown_plan old.situation t) plan q)
         (next_begins law old.situation t e h.sound.situation best.0.feasible accepted sound)

@@ -64,12 +64,8 @@ pub last_frozen_at : (s : Situation) (l : ℕ × Category) → last_of (in_landi
 last_frozen_at s l e =
     let r = last_member _ l e in
     let b = in_frozen s.active r.0 (order_member r.0 _ r.1) in
-    let at : b.1 ≡ l.0 = ap (λ f. f.second) (sym b.4) ∙ ap (λ p. p.0) r.2 in (
-      b.0,
-      b.2,
-      b.3 ∙ ap (λ t. Some t) at,
-      ap (λ f. f.flight.category) (sym b.4) ∙ ap (λ p. p.1) r.2,
-    )
+    let at : b.1 ≡ l.0 = ap (λ f. f.second) (sym b.4) ∙ ap (λ p. p.0) r.2 in
+    (b.0, b.2, b.3 ∙ ap (λ t. Some t) at, ap (λ f. f.flight.category) (sym b.4) ∙ ap (λ p. p.1) r.2)
 
 -- and no other is
 one_at : (s : Situation) → IsSound s → (a b : Active) (m : ℕ) → Member a s.active → Member b s.active

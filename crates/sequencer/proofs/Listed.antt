@@ -58,8 +58,7 @@ module _ (all : List Active) where
       back (inl s) = (was i j).1 (inl s)
       back (inr l) = elim (cases_lt i first) [
         | inl lt ↦ (was i j).1 (inr (l.0, lt, l.2))
-        | inr ge ↦ (let e : i ≡ first =
-            (let a = l.1 in omega arith) in absurd
+        | inr ge ↦ (let e : i ≡ first = (let a = l.1 in omega arith) in absurd
             (none (subst (λ x. IsListed all x next) e (subst (λ y. IsListed all i y) l.0 l.2))))
       ]
 
@@ -80,9 +79,8 @@ module _ (all : List Active) where
   pub none_below : (pairs : List ℕ) → ((i j : ℕ) → MustPrecede pairs i j → ⊥) → Below pairs 1
   none_below pairs none i j = (λ m. absurd (none i j m), omega arith)
 
-  pub one_below : (old new : List ℕ) (next : ℕ) → Below old next
-      → ((i j : ℕ) → MustPrecede new i j ↔ (MustPrecede old i j ⊎ ((j ≡ next) × IsListed all i j)))
-      → Below new (next + 1)
+  pub one_below : (old new : List ℕ) (next : ℕ) → Below old next →
+      ((i j : ℕ) → MustPrecede new i j ↔ (MustPrecede old i j ⊎ ((j ≡ next) × IsListed all i j))) → Below new (next + 1)
   one_below old new next was step i j = (
     λ m. elim ((step i j).0 m) [
       | inl o ↦ (let l = (was i j).0 o in ((let a = l.0 in omega arith), l.1))

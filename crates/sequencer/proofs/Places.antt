@@ -27,13 +27,11 @@ filter_more test xs i x found lt is e = sym (ap (filter test) here ∙ filter-ap
     go false = append-nil found
 
 -- what stands at each place
-pub places_at : {X : Type 0} (flights : List Active) (place : X → ℕ) (flight : X → Active) (ps : List X)
-    → All (λ p. IsAt flights (place p) (flight p)) ps
-    → map (slice_get flights) (map place ps) ≡ map Some (map flight ps)
+pub places_at : {X : Type 0} (flights : List Active) (place : X → ℕ) (flight : X → Active) (ps : List X) →
+    All (λ p. IsAt flights (place p) (flight p)) ps → map (slice_get flights) (map place ps) ≡ map Some (map flight ps)
 places_at flights place flight [] all = refl
-places_at flights place flight (p ∷ ps) all =
-    ap₂ (λ o l. o ∷ l) (All-head (λ p. IsAt flights (place p) (flight p)) p ps all)
-    (places_at flights place flight ps (All-tail (λ p. IsAt flights (place p) (flight p)) p ps all))
+places_at flights place flight (p ∷ ps) all = ap₂ (λ o l. o ∷ l) (All-head (λ p. IsAt flights (place p) (flight p))
+    p ps all) (places_at flights place flight ps (All-tail (λ p. IsAt flights (place p) (flight p)) p ps all))
 
 pub few_ranked : {X : Type 0} (s : Situation) (flight : X → Active) (ranked : List X) → IsSound s
     → map flight ranked ≡ by_rank (waiting s) → length ranked ≤ most_waiting
@@ -48,9 +46,8 @@ pub by_rank_places : {X : Type 0} (s : Situation) (place : X → ℕ) (flight : 
     (flights : List Active) (places : List ℕ) → flights ≡ s.active
     → map flight ranked ≡ by_rank (filter is_waiting flights) →
     All (λ p. IsAt flights (place p) (flight p)) ranked → places ≡ map place ranked → ArePlacesByRank s places
-by_rank_places s place flight ranked flights places same is at e =
-    ap (map (slice_get s.active)) e ∙ ap (λ l. map (slice_get l) (map place ranked)) (sym same)
-    ∙ places_at flights place flight ranked at
+by_rank_places s place flight ranked flights places same is at e = ap (map (slice_get s.active)) e
+    ∙ ap (λ l. map (slice_get l) (map place ranked)) (sym same) ∙ places_at flights place flight ranked at
     ∙ ap (map (λ a. Some a)) (is ∙ ap (λ l. by_rank (filter is_waiting l)) same)
 
 -- a flight that is not frozen waits

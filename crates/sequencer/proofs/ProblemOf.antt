@@ -115,9 +115,8 @@ module _ (s : Situation) (h : Head) (ws : List waits.Waiting) (pairs : List ℕ)
     few_flights = omega (arith, long, sound.few_waiting);
     in_order = λ k d lt.
         let n = each_rank in
-        ap is_lt (ap₂ first_come_cmp (key_at k d (omega arith)) (key_at (k + 1) d lt)
-        ∙ Less-from_sorted rank_cmp R k (k + 1) nobody (rank_ranked (waiting s) (waiting_apart s sound.callsigns))
-        (omega arith) (omega arith));
+        ap is_lt (ap₂ first_come_cmp (key_at k d (omega arith)) (key_at (k + 1) d lt) ∙ Less-from_sorted rank_cmp R k
+        (k + 1) nobody (rank_ranked (waiting s) (waiting_apart s sound.callsigns)) (omega arith) (omega arith));
     callsigns = λ i j d lt within e.
         let n = each_rank in
         apart_permutes (waiting s) R (rank_permutes (waiting s)) (waiting_apart s sound.callsigns) i j nobody lt

@@ -1,10 +1,9 @@
 -- Landings in first-come order, 180 seconds apart or more, each within its one window, keep the rules.
-use Rattle.std.proofs.Common.{◌≡◌, ℕ, ◌+◌, ◌<◌, ◌≤◌, ◌⊎◌, inl, inr, List, [], ◌∷◌, map, filter, true, false, Bool}
-use Rattle.std.proofs.Common.{cond, None, refl, sym, ap, subst, ◌∙◌, arith}
-use Rattle.std.specs.Prelude.{All, IsTrue, count_by, is_none, bytes_eq, nat_lt}
-use Rattle.std.specs.List.{list_any}
+use Rattle.std.proofs.Common.{◌≡◌, ℕ, ◌+◌, ◌<◌, ◌≤◌, ◌⊎◌, inl, inr, List, [], ◌∷◌, map, filter, true, false}
+use Rattle.std.proofs.Common.{Bool, None, refl, sym, ap, subst, ◌∙◌, arith}
+use Rattle.std.specs.Prelude.{All, IsTrue, count_by, is_none, nat_lt}
 use Rattle.std.specs.Ordering.{is_lt}
-use Rattle.std.proofs.lemmas.Bool.{le-leb, lt-ltb, le-ltb, ne_eqb}
+use Rattle.std.proofs.lemmas.Bool.{lt-ltb, le-ltb}
 use Rattle.std.proofs.lemmas.Cmp.{tied_itself}
 use Rattle.std.proofs.lemmas.Grind.{common_steps}
 use Rattle.std.proofs.lemmas.List.Sums.{sum_by-cons}
@@ -41,28 +40,17 @@ IsBehind f g = (f.flight.eta < g.flight.eta) × (f.second + 180 ≤ g.second)
 count_agree : {X : Type 0} (p q : X → Bool) (xs : List X) → ((x : X) → Member x xs → p x ≡ q x)
     → count_by p xs ≡ count_by q xs
 count_agree p q [] h = refl
-count_agree {X} p q (x ∷ xs) h =
-    let here = h x (inl refl) in
-    let rest = count_agree p q xs (λ y i. h y (inr i)) in
-    let a = sum_by-cons (λ (y : X). cond {A = ℕ} (p y) 1 0) x xs in
-    let b = sum_by-cons (λ (y : X). cond {A = ℕ} (q y) 1 0) x xs in
-    let e : cond {A = ℕ} (p x) 1 0 ≡ cond {A = ℕ} (q x) 1 0 = ap (λ (c : Bool). cond {A = ℕ} c 1 0) here in
-    omega (arith, a, b, e, rest)
+count_agree {X} p q (x ∷ xs) h = grind (arith, common_steps, sum_by-cons, count_agree p q xs (λ y i. h y (inr i)))
 
 count_map : {X Y : Type 0} (p : Y → Bool) (f : X → Y) (xs : List X) → count_by p (map f xs) ≡ count_by (λ x. p (f x)) xs
-count_map p f [] = refl
-count_map {X} {Y} p f (x ∷ xs) =
-    let rest = count_map p f xs in
-    let a = sum_by-cons (λ (y : Y). cond {A = ℕ} (p y) 1 0) (f x) (map f xs) in
-    let b = sum_by-cons (λ (y : X). cond {A = ℕ} (p (f y)) 1 0) x xs in
-    omega (arith, a, b, rest)
+count_map p f xs = grind (arith, common_steps)
 
 -- by estimates alone, where these differ
 earlier_is : (f g : Flight) → f.eta < g.eta → is_lt (arrival_cmp f g) ≡ true
 earlier_is f g lt = rw (lt-ltb f.eta g.eta lt) refl
 
 later_is : (f g : Flight) → g.eta < f.eta → is_lt (arrival_cmp f g) ≡ false
-later_is f g lt = rw (le-ltb f.eta g.eta (omega (arith, lt)), ne_eqb f.eta g.eta (λ e. omega (arith, e, lt))) refl
+later_is f g lt = grind arith
 
 module _ (fs : List Landing) (easy : (f : Landing) → Member f fs → IsEasy f) (behind : AscendBy IsBehind fs) where
   all_wait : (gs : List Landing) → ((f : Landing) → Member f gs → IsEasy f) → filter waits gs ≡ gs
@@ -82,39 +70,18 @@ module _ (fs : List Landing) (easy : (f : Landing) → Member f fs → IsEasy f)
   apart (x ∷ gs) up f g (inr i) (inr j) = apart gs up.1 f g i j
 
   far : (f g : Landing) → Member f fs → Member g fs → ArePairSeparated sample_table f g
-  far f g i j other le = elim (apart fs behind f g i j) [
-    | inl same ↦ absurd (other (ap (λ (x : Landing). x.flight.callsign) same))
-    | inr (inl b) ↦ (let few = few_apart f.flight.category g.flight.category in let gap =
-        b.1 in omega (arith, few, gap))
-    | inr (inr b) ↦ (let gap = b.1 in absurd (omega (arith, gap, le)))
-  ]
+  far f g i j other le = grind (arith, apart, few_apart)
 
   -- who comes before lands before
   same_test : (f g : Landing) → Member f fs → Member g fs
       → is_lt (arrival_cmp g.flight f.flight) ≡ nat_lt g.second f.second
-  same_test f g i j = elim (apart fs behind f g i j) [
-    | inl same ↦ rw same (own g)
-    | inr (inl b) ↦ (let gap = b.1 in later_is g.flight f.flight b.0
-        ∙ sym (le-ltb g.second f.second (omega (arith, gap))))
-    | inr (inr b) ↦ (let gap = b.1 in earlier_is g.flight f.flight b.0
-        ∙ sym (lt-ltb g.second f.second (omega (arith, gap))))
-  ]
-    where
-      own : (x : Landing) → is_lt (arrival_cmp x.flight x.flight) ≡ nat_lt x.second x.second
-      own x = ap is_lt (tied_itself arrival_total x.flight) ∙ sym (le-ltb x.second x.second (omega arith))
+  same_test f g i j = grind (arith, apart, later_is, le-ltb, earlier_is, lt-ltb, tied_itself, arrival_total)
 
   same_place : (f : Landing) → Member f fs → rank_among fs f ≡ place fs f
-  same_place f i =
-      let moved = count_map (λ (g : Flight). is_lt (arrival_cmp g f.flight)) (λ (g : Landing). g.flight) fs in
-      let same = count_agree (λ (g : Landing). is_lt (arrival_cmp g.flight f.flight))
-      (λ (g : Landing). nat_lt g.second f.second) fs (λ g j. same_test f g i j) in
-      omega (arith, moved, same)
+  same_place f i = grind (arith, count_map, count_agree, same_test)
 
   is_opened : (f : Landing) → IsEasy f → is_open f.flight.windows [] f.second ≡ true
-  is_opened f e =
-      let first = le-leb f.flight.eta f.second e.begun in
-      let last = le-leb f.second (f.flight.eta + 7199) e.ended in
-      rw (e.window, first, last) refl
+  is_opened f e = grind arith
 
   pub keeps : (k : ℕ) (s : Situation) → s.closures ≡ [] → s.clock ≡ None → s.aerodrome.table ≡ sample_table
       → s.aerodrome.k ≡ k → KeepsRules s fs
@@ -131,9 +98,7 @@ module _ (fs : List Landing) (easy : (f : Landing) → Member f fs → IsEasy f)
   }
     where
       none_first : (f g : Landing) → g.flight.after ≡ [] → IsPairInPrecedence f g
-      none_first f g none listed = absurd (let x : IsTrue (list_any (λ d. bytes_eq d f.flight.callsign) []) =
-          subst (λ (names : List (List ℕ)). IsTrue (list_any (λ d. bytes_eq d f.flight.callsign) names)) none listed in
-          cc x)
+      none_first f g none listed = grind arith
 
       kept : (m : ℕ) (f : Landing) → Member f fs → IsShiftKept m fs f
       kept m f i = let same = same_place f i in let none =

@@ -1,6 +1,6 @@
 -- Each flight that a state makes lands 120 seconds later after its estimate than the one before it.
-use Rattle.std.proofs.Common.{◌≡◌, ℕ, zero, suc, ◌+◌, ◌-◌, ◌*◌, ◌<◌, ◌≤◌, inl, inr, List, [], ◌∷◌, length, map, refl}
-use Rattle.std.proofs.Common.{sym, ap, subst, ◌∙◌, arith}
+use Rattle.std.proofs.Common.{◌≡◌, ℕ, zero, suc, ◌+◌, ◌-◌, ◌*◌, ◌<◌, ◌≤◌, inl, inr, List, [], ◌∷◌, length, map}
+use Rattle.std.proofs.Common.{refl, sym, ap, ◌∙◌, arith}
 use Rattle.cps_base.specs.Limits.{most_waiting}
 use Rattle.landing_rules.specs.Events.{Opening, opening_flight}
 use Rattle.landing_rules.specs.Flights.{Active, Landing, Schedule, landing, landings}
@@ -58,24 +58,13 @@ module _ (k : ℕ) where
 
   first_easy : (number before x : ℕ) → number ≤ most_waiting → before ≤ 20000 → IsEasy (first number before x)
   unfolding flight
-  first_easy number before x few early =
-      let below = drawn_below 60 (next x) (omega arith) in
-      record {
-        waits = refl;
-        unpassed = refl;
-        alone = refl;
-        window = refl;
-        begun = omega arith;
-        ended = omega (arith, few);
-        days = omega (arith, few, early, below);
-      }
+  first_easy number before x few early = grind (arith, drawn_below)
 
   all_easy : (n number before x : ℕ) → number + n ≤ most_waiting + 1 → before + 119 * n ≤ 20000 → (f : Landing)
       → Member f (landed n number before x) → IsEasy f
   unfolding flights_from
   all_easy zero number before x few early f i = absurd i
-  all_easy (suc n) number before x few early f (inl e) =
-      subst IsEasy (sym e) (first_easy number before x (omega (arith, few)) (omega (arith, early)))
+  all_easy (suc n) number before x few early f (inl e) = grind (arith, first_easy)
   all_easy (suc n) number before x few early f (inr i) =
       let below = drawn_below 60 (next x) (omega arith) in
       all_easy n (number + 1) (before + 60 + drawn 60 (next x)) (after_three x) (omega (arith, few))
@@ -86,11 +75,7 @@ module _ (k : ℕ) where
       → (before + 60 ≤ f.flight.eta) × (before + 60 + 120 * (number - 1) ≤ f.second)
   unfolding flights_from
   all_later zero number before x f i = absurd i
-  all_later (suc n) number before x f (inl e) =
-      let eta : f.flight.eta ≡ before + 60 + drawn 60 (next x) =
-      ap (λ (g : Landing). g.flight.eta) e ∙ first_eta number before x in
-      let at : f.second ≡ second number before x = ap (λ (g : Landing). g.second) e in
-      (omega (arith, eta), omega (arith, at))
+  all_later (suc n) number before x f (inl e) = grind (arith, first_eta)
   all_later (suc n) number before x f (inr i) =
       let rest = all_later n (number + 1) (before + 60 + drawn 60 (next x)) (after_three x) f i in
       let eta = rest.0 in
@@ -112,11 +97,11 @@ module _ (k : ℕ) where
 
 pub lands : TrafficLandsLaw
 lands seed n k few = (
-  seconds_from n 1 3600 seed,
+  _,
   (
     length-seconds n 1 3600 seed ∙ sym (length-active k n 1 3600 seed),
-    keeps (landed k n 1 3600 seed) (all_easy k n 1 3600 seed (omega (arith, few)) (omega (arith, few)))
-        (ascends k n 1 3600 seed (omega arith))
-        k (opened (traffic seed n k).aerodrome (traffic seed n k).flights) refl refl refl refl,
+    keeps (landed k n 1 3600 seed)
+        (all_easy k n 1 3600 seed (omega (arith, few)) (omega (arith, few))) (ascends k n 1 3600 seed (omega
+        arith)) k (opened (traffic seed n k).aerodrome (traffic seed n k).flights) refl refl refl refl,
   ),
 )

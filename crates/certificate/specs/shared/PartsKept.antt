@@ -1,6 +1,6 @@
 -- The landings of a certificate with one more, how long a pattern is, and how great its number.
-use Rattle.std.proofs.Common.{rules, ◌≡◌, ℕ, zero, suc, ◌*◌, ◌<◌, ◌≤◌, ◌^◌, Bool, true, false, List, [], ◌∷◌, ◌++◌}
-use Rattle.std.proofs.Common.{length, refl, arith}
+use Rattle.std.proofs.Common.{rules, ◌≡◌, ℕ, ◌*◌, ◌<◌, ◌≤◌, ◌^◌, Bool, true, false, List, [], ◌∷◌, ◌++◌}
+use Rattle.std.proofs.Common.{length, arith}
 use Rattle.cps_base.specs.Limits.{greatest_k}
 use Rattle.cps_base.specs.Text.{is_callsign}
 use Rattle.certificate.specs.Patterns.{is_pattern_length, number_of}
@@ -14,11 +14,7 @@ landings_more (x ∷ xs) l h p q = (h.0, h.1, landings_more xs l h.2 p q)
 
 -- two digits for each place that a flight may be shifted
 pub even_length : (k : ℕ) → k ≤ greatest_k → is_pattern_length (2 * k) ≡ true
-even_length zero h = refl
-even_length (suc zero) h = refl
-even_length (suc (suc zero)) h = refl
-even_length (suc (suc (suc zero))) h = refl
-even_length (suc (suc (suc (suc k)))) h = absurd (omega arith)
+even_length k h = grind arith
 
 pub number_below : (ds : List Bool) → number_of ds < 2 ^ length ds
 number_below [] = omega arith

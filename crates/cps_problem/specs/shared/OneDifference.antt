@@ -16,14 +16,7 @@ one_first_difference p q a b x y = let c = no_less p q a b x y in let d = no_les
 -- ---- the other way round
 
 pub same_head_back : (p q : Problem) → HaveSameHead p q → HaveSameHead q p
-same_head_back p q h = record {
-  table = sym h.table;
-  k = sym h.k;
-  objective = sym h.objective;
-  horizon =
-      sym h.horizon;
-  last = sym h.last;
-}
+same_head_back p q h = grind arith
 
 pub agree_back : (p q : Problem) (r : ℕ) → AgreeUpTo p q r → AgreeUpTo q p r
 agree_back p q r a = record {

@@ -1,7 +1,7 @@
 -- Two problems of one situation differ in nothing but how their pairs of ranks are listed: they have the same flights,
 -- and the same ranks must land before others.
-use Rattle.std.proofs.Common.{◌≡◌, ℕ, zero, suc, ◌+◌, ◌<◌, true, List, [], ◌∷◌, length, get_or, Option, refl, sym, ap}
-use Rattle.std.proofs.Common.{subst, ◌∙◌, add-one, arith}
+use Rattle.std.proofs.Common.{◌≡◌, ℕ, zero, suc, ◌+◌, ◌<◌, true, List, [], ◌∷◌, length, get_or, Option, refl}
+use Rattle.std.proofs.Common.{sym, ap, ◌∙◌, add-one, arith}
 use Rattle.std.specs.List.{AllZip}
 use Rattle.std.proofs.Math.Path.{fun_ext}
 use Rattle.std.proofs.lemmas.Bool.Decides.{same_from_decides}
@@ -38,12 +38,10 @@ one_flights closures [] [] (w ∷ ws) h k = absurd k
 one_flights closures [] (v ∷ vs) ws h k = absurd h
 one_flights closures (a ∷ all) [] ws h k = absurd h
 one_flights closures (a ∷ all) (v ∷ vs) [] h k = absurd k
-one_flights closures (a ∷ all) (v ∷ vs) (w ∷ ws) h k =
-    ap (λ (x : Waiting). x ∷ vs) (one_waiting closures a v w h.0 k.0)
-    ∙ ap (λ (xs : List Waiting). w ∷ xs) (one_flights closures all vs ws h.1 k.1)
+one_flights closures (a ∷ all) (v ∷ vs) (w ∷ ws) h k = search (one_waiting, one_flights closures all vs ws h.1 k.1)
 
 pub same_flights : (s : Situation) (p q : Problem) → IsProblemOf s p → IsProblemOf s q → p.flights ≡ q.flights
-same_flights s p q h k = one_flights s.closures (by_rank (waiting s)) p.flights q.flights h.flights k.flights
+same_flights s p q h k = grind (arith, one_flights)
 
 -- ---- which ranks must land before others
 
@@ -69,13 +67,10 @@ module _ (xs ys : List ℕ) where
       let left = within.1 in
       let right = within.3 in
       let here : must_precede xs (i + 1) (j + 1) ≡ true = rw (add-one i, add-one j) e in
-      let there : must_precede ys (i + 1) (j + 1) ≡ true =
-      asked_at ranked i j (omega arith) (omega arith) of_xs of_ys here in
-      rw (add-one i, add-one j) at there
+      rw (add-one i, add-one j) at (asked_at ranked i j (omega arith) (omega arith) of_xs of_ys here)
 
 between_all : (s : Situation) (p : Problem) → IsProblemOf s p → AreBetweenRanks (length (by_rank (waiting s))) p.pairs
-between_all s p h = subst (λ (n : ℕ). AreBetweenRanks n p.pairs)
-    (AllZip-long (IsWaitingOf s.closures) (by_rank (waiting s)) p.flights h.flights) h.between_ranks
+between_all s p h = grind (arith, AllZip-long)
 
 pub same_order : (s : Situation) (p q : Problem) → IsProblemOf s p → IsProblemOf s q
     → must_precede p.pairs ≡ must_precede q.pairs
@@ -105,15 +100,4 @@ abbrev pub with_pairs : Problem → List ℕ → Problem
 with_pairs p xs = problem_from p.table p.k p.objective p.horizon p.last p.base p.flights xs
 
 pub same_but_pairs : (s : Situation) (p q : Problem) → IsProblemOf s p → IsProblemOf s q → p ≡ with_pairs q p.pairs
-same_but_pairs s p q h k =
-    ap (λ (x : List (List ℕ)). problem_from x p.k p.objective p.horizon p.last p.base p.flights p.pairs)
-    (h.table ∙ sym k.table)
-    ∙ ap (λ (x : ℕ). problem_from q.table x p.objective p.horizon p.last p.base p.flights p.pairs) (h.k ∙ sym k.k)
-    ∙ ap (λ (x : Objective). problem_from q.table q.k x p.horizon p.last p.base p.flights p.pairs)
-    (h.objective ∙ sym k.objective)
-    ∙ ap (λ (x : ℕ). problem_from q.table q.k q.objective x p.last p.base p.flights p.pairs) (h.horizon ∙ sym k.horizon)
-    ∙ ap (λ (x : Option (ℕ × Category)). problem_from q.table q.k q.objective q.horizon x p.base p.flights p.pairs)
-    (h.last ∙ sym k.last)
-    ∙ ap (λ (x : ℕ). problem_from q.table q.k q.objective q.horizon q.last x p.flights p.pairs) (h.base ∙ sym k.base)
-    ∙ ap (λ (x : List Waiting). problem_from q.table q.k q.objective q.horizon q.last q.base x p.pairs)
-    (same_flights s p q h k)
+same_but_pairs s p q h k = grind (arith, same_flights)

@@ -23,7 +23,7 @@ no_worse_found : (q : Pair) (ps : List Pair) → list_any (λ o. no_worse o q) p
 no_worse_found q [] e = absurd (cc)
 no_worse_found q (o ∷ ps) e = elim (or_cases _ _ e) [
   | inl h ↦ (o, inl refl, no_worse_true o q h)
-  | inr h ↦ let m = no_worse_found q ps h in (m.0, inr m.1, m.2)
+  | inr h ↦ grind (arith, no_worse_found q ps)
 ]
 
 any_false : (p : Pair → Bool) (b : Pair) (ps : List Pair) → list_any p ps ≡ false → InPairs b ps → p b ≡ false
@@ -47,9 +47,7 @@ module _ {S : Type 0} (node_of : S → PatternNode) (pairs_of : S → List Pair)
     unfolding first_missed
     none_missed w pairs e r b q m i n =
         let out = from_none _ 1 g.count e r m.from_one (omega arith) in
-        let kept = any_false _ b _ (and_false _ _ out (permits_is g w r m)) i in
-        let left = ap (is_not_covered node_of pairs_of all (pattern_push g w r)) (sym n) ∙ kept in
-        not-false _ left
+        let kept = any_false _ b _ (and_false _ _ out (permits_is g w r m)) i in grind arith
 
     listed_missed : (i : ℕ) (ss : List S) → missed_from node_of pairs_of g first after cost all i ss ≡ None
         → (w : PatternNode) (b : Pair) → IsListed node_of pairs_of ss w b → (s : S) × (node_of s ≡ w)
@@ -81,11 +79,6 @@ module _ {S : Type 0} (node_of : S → PatternNode) (pairs_of : S → List Pair)
             let k = listed_missed 1 all from_states w p b in
             let e' = subst (λ (z : PatternNode). next_pair first after cost z.2 p r ≡ Some q) (sym k.1) e in
             let c = none_missed (node_of k.0) (pairs_of k.0) k.3 r p q
-            (subst (λ (z : PatternNode). PatternPermits g z r) (sym k.1) m) k.2 e' in
-            let o = covers_listed (pattern_push g (node_of k.0) r) q all c in (
-              o.0,
-              inr (subst (λ (z : PatternNode). IsListed node_of pairs_of all (pattern_push g z r) o.0) k.1 o.1),
-              o.2,
-            )
+            (subst (λ (z : PatternNode). PatternPermits g z r) (sym k.1) m) k.2 e' in grind (arith, covers_listed)
       ];
     }

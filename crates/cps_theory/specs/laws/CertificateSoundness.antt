@@ -50,17 +50,11 @@ module _ {S : Type 0} (node_of : S → PatternNode) (pairs_of : S → List Pair)
     accepted_optimal value mono some v e t f =
         closed_certificate_optimal p _ sound _ mono _ opens dearer _
         (closure_closed _ _ _ _ _ _ ss from_start from_states) v
-        (λ w q at l. elim l [
-          | inl s ↦ (let z = ap (λ (d : PatternNode). d.0) s.0 in absurd (omega arith))
-          | inr b ↦ final_not_below _ _ v ss e w q at b
-        ]) t f
+        (grind (arith, final_not_below)) t f
 
     pub accepted_infeasible : 1 ≤ p.rules.count → element_from (is_final node_of pairs_of p.rules.count) 1 ss ≡ None
         → (t : ℕ → ℕ) → Feasible p t → ⊥
     accepted_infeasible some e t f =
         closed_certificate_infeasible p _ sound _ (λ a b le. le.0) _ opens dearer _
         (closure_closed _ _ _ _ _ _ ss from_start from_states)
-        (λ w q at l. elim l [
-          | inl s ↦ (let z = ap (λ (d : PatternNode). d.0) s.0 in absurd (omega arith))
-          | inr b ↦ none_final _ ss e w q at b
-        ]) t f
+        (grind (arith, none_final)) t f

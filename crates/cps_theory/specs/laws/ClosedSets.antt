@@ -1,4 +1,5 @@
 -- Closed sets of pairs have one no later and no dearer for every landing of every legal prefix.
+use Rattle.std.proofs.Common.{arith}
 use Rattle.std.proofs.Common.{true, ◌≡◌, ℕ, ◌≤◌, List, [], length, Option, Some, sym, subst, le_trans}
 use Rattle.cps_theory.specs.Separation.{Landing}
 use Rattle.cps_theory.specs.Retiming.{IsFirstOpen, NeverEarlier}
@@ -26,8 +27,7 @@ module _ (Open : ℕ → ℕ → Type 0) (first : ℕ → ℕ → Option ℕ) (a
         step = λ r rs legal p q listed e.
             let s = net.shrinks r rs legal in
             let e' = subst (λ k. next_pair first after cost k p r ≡ Some q) (sym (net.newest_is rs s.0)) e in
-            let o = c.step (node rs) r p q listed s.1 e' in
-            (o.0, subst (λ w. Lists w o.0) (sym (net.pushes r rs s.0)) o.1, o.2);
+            let o = c.step (node rs) r p q listed s.1 e' in grind arith;
       })
 
   module _ (g : OrderRules) (ones : (a r : ℕ) → g.before a r ≡ true → 1 ≤ a) (Lists : PatternNode
@@ -39,12 +39,10 @@ module _ (Open : ℕ → ℕ → Type 0) (first : ℕ → ℕ → Option ℕ) (a
         → (xs : List Landing) → Legal g (ranks xs) → Landed Open after xs → length (ranks xs) ≡ g.count
         → v ≤ value (pair_of cost xs)
     closed_landings_optimal value mono v final xs legal landed whole =
-        let k = closed_nodes_cover _ _ _ _ _ _ (pattern_network g ones) _ c xs legal landed in
-        le_trans (final (pattern_node g (ranks xs)) k.0 whole k.1) (mono k.0 (pair_of cost xs) k.2)
+        let k = closed_nodes_cover _ _ _ _ _ _ (pattern_network g ones) _ c xs legal landed in grind arith
 
     -- nothing lands at all, if the last stage has no state
     pub closed_landings_infeasible : ((w : PatternNode) (p : Pair) → w.0 ≡ g.count → Lists w p → ⊥)
         → (xs : List Landing) → Legal g (ranks xs) → Landed Open after xs → length (ranks xs) ≡ g.count → ⊥
     closed_landings_infeasible none xs legal landed whole =
-        let k = closed_nodes_cover _ _ _ _ _ _ (pattern_network g ones) _ c xs legal landed in
-        none (pattern_node g (ranks xs)) k.0 whole k.1
+        let k = closed_nodes_cover _ _ _ _ _ _ (pattern_network g ones) _ c xs legal landed in search

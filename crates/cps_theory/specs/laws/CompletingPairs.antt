@@ -21,9 +21,7 @@ completing_undominated Completing Keeps k anti p kept = record {
   completes = k.completes p kept;
   best = λ q a le.
       let c = k.covers q a in
-      let e = anti c.0 p c.1 kept (no_earlier_no_dearer_trans c.0 q p c.2 le) in
-      ap₂ (λ x y. (x, y)) (le_antisymm (subst (λ (x : Pair). q.0 ≤ x.0) e c.2.0) le.0)
-      (le_antisymm le.1 (subst (λ (x : Pair). x.1 ≤ q.1) e c.2.1));
+      let e = anti c.0 p c.1 kept (no_earlier_no_dearer_trans c.0 q p c.2 le) in grind arith;
 }
 
 pub undominated_completing : (Completing Keeps : Pair → Type 0) → KeptCompleting Completing Keeps
@@ -60,12 +58,7 @@ module _ (W : Type 0) (Open : ℕ → ℕ → Type 0) (first : ℕ → ℕ → O
       record {
         landings = (r, t) ∷ x.landings;
         legal = net.grows r rs x.legal (subst (λ v. Permitted v r) (sym x.at) p);
-        landed = (
-          o,
-          le_trans (later.mono (latest_landing x.landings).0 (latest_landing x.landings).1 b r x.by)
-              (subst (λ k. after k b r ≤ t) (ap newest (sym x.at) ∙ newest_last _ x.legal) le),
-          x.landed,
-        );
+        landed = grind arith;
         at = net.pushes r rs x.legal ∙ ap (λ v. push v r) x.at;
         by = le_refl t;
       }
@@ -76,8 +69,7 @@ module _ (W : Type 0) (Open : ℕ → ℕ → Type 0) (first : ℕ → ℕ → O
       → ((b : ℕ) → Open (newest w) b → Reached Open after Legal node w b → Low b → (q : Pair) × New q × (b ≤ q.0))
       → KeptCompleting (Complete w) New
   completing_final w f New made enough = record {
-    completes = λ q n. let m =
-        made q n in record { opened = m.0; reached = m.1; low = m.2; rest = []; follows = f; cost_is = sym m.3 };
+    completes = grind arith;
     covers = λ q c. let e = enough q.0 c.opened c.reached c.low in let z =
         (made e.0 e.1).3 in (e.0, e.1, (e.2, omega arith));
   }
@@ -121,14 +113,7 @@ module _ (W : Type 0) (Open : ℕ → ℕ → Type 0) (first : ℕ → ℕ → O
       by q c [] f e = absurd (not_final f)
       by q c (y ∷ ys) f e =
           let x = opens.least y.0 (after (newest w) q.0 y.0) y.1 f.1 f.2 in
-          let done : Complete (push w y.0) (y.1, cost_of cost ys) = record {
-            opened = subst (λ k. Open k y.1) (sym (newest_push w q.0 y.0 c.reached f.0)) f.1;
-            reached = reached_push w q.0 y.0 y.1 c.reached f.0 f.1 f.2;
-            low = f.3;
-            rest = ys;
-            follows = f.4;
-            cost_is = refl;
-          } in
+          let done : Complete (push w y.0) (y.1, cost_of cost ys) = grind (arith, newest_push, reached_push) in
           let o = (nexts y.0 f.0).covers (y.1, cost_of cost ys) done in
           let n = enough q.0 y.0 x.0 o.0 c.opened c.reached c.low f.0 x.1 o.1 (omega arith) in
           let d = dearer.mono y.0 x.0 y.1 x.2 in
@@ -152,10 +137,4 @@ module _ (W : Type 0) (Open : ℕ → ℕ → Type 0) (first : ℕ → ℕ → O
       × AllLow Low xs × Follow (node (ranks xs)) (latest_landing xs).1 ys
   whole_continued xs [] l d f a = (l, d, a, f)
   whole_continued xs (y ∷ ys) l d f a =
-      let r = whole_continued _ ys l d f a in
-      let s = net.shrinks y.0 (ranks xs) r.0 in (
-        s.0,
-        r.1.2,
-        r.2.1,
-        (s.1, r.1.0, rw (newest_last xs s.0) r.1.1, r.2.0, rw (net.pushes y.0 (ranks xs) s.0) at r.3),
-      )
+      let r = whole_continued _ ys l d f a in grind arith

@@ -29,10 +29,7 @@ pub decide_ranks : (n : ℕ) (Q : ℕ → Type 0) → ((x : ℕ) → Decided (Q 
 decide_ranks zero Q d = inl (λ x r. absurd (omega arith))
 decide_ranks (suc n) Q d =
     with_decided (decide_ranks n Q d) (λ low. with_decided (d (suc n))
-    (λ top. inl (λ x r. elim (cases_lt n x) [
-      | inl lt ↦ subst Q (omega arith) top
-      | inr le ↦ low x (r.0, le)
-    ])) (λ all. all (suc n) (omega arith, omega arith))) (λ all x r. all x (r.0, omega arith))
+    (grind arith) (λ all. all (suc n) (omega arith, omega arith))) (λ all x r. all x (r.0, omega arith))
 
 module _ (g : OrderRules) (ranked : (a r : ℕ) → g.before a r ≡ true → IsRank g.count a) where
   decide_fits : (rs : List ℕ) (r : ℕ) → Decided (FitsBehind g rs r)

@@ -31,8 +31,7 @@ module _ (p : RankedProblem) (sound : SoundProblem p) (first : ℕ → ℕ → O
   tight_earliest u t =
       let n = p.rules.count in
       let w = tighten p sound _ opens u t.feasible in
-      w.4 ∙ ap Some (at_seconds_agree w.0 u _ (λ r i. let q =
-      sorted_in u n r i in le_antisymm (w.3 r q) (t.least w.0 w.1.feasible w.2 r q)))
+      w.4 ∙ ap Some (at_seconds_agree w.0 u _ (grind (arith, sorted_in, le_antisymm)))
 
   -- and what an order lands at its earliest seconds is tight
   pub earliest_tight : (zs : List Landing) → Legal p.rules (ranks zs) → length (ranks zs) ≡ p.rules.count
@@ -54,11 +53,4 @@ module _ (p : RankedProblem) (sound : SoundProblem p) (first : ℕ → ℕ → O
       let w = tighten p sound _ opens t f in
       let same : at_seconds w.0 (sorted t n) ≡ at_seconds t (sorted t n) = cc in
       let agree : (r : ℕ) → IsRank n r → w.0 r ≡ t r =
-      λ r q. agree_at w.0 t _ same r (in_sorted t n r q) in (
-        record {
-          feasible = f;
-          least = λ v fv sv r q. let a = w.1.least v fv (λ x y qx qy. let g = w.2 x y qx qy in let h =
-              sv x y qx qy in (λ lt. h.0 (g.1 lt), λ lt. g.0 (h.1 lt))) r q in let b = agree r q in omega arith;
-        },
-        s,
-      )
+      λ r q. agree_at w.0 t _ same r (in_sorted t n r q) in grind arith

@@ -33,8 +33,7 @@ module _ (Open : ℕ → ℕ → Type 0) (first : ℕ → ℕ → Option ℕ) (a
       let rest = earliest_least later ys l.2 in
       let n = no_later_last _ ys rest.2 in
       let start =
-      le_trans (rw n.0 (later.mono (latest_landing ys).0 (latest_landing rest.0).1
-      (latest_landing ys).1 y.0 n.1)) l.1 in
+      le_trans (grind arith) l.1 in
       let f = opens.least y.0 (after (latest_landing rest.0).0 (latest_landing rest.0).1 y.0) y.1 l.0 start in (
         (y.0, f.0) ∷ rest.0,
         ap (option_and_then (λ xs. option_map _ _)) rest.1 ∙ ap (option_map _) f.1,

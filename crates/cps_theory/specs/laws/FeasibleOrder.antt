@@ -92,8 +92,7 @@ module _ (p : RankedProblem) (t : ℕ → ℕ) (sound : SoundProblem p) where
         in_order = λ f g qf qg b. order_in f g rs pl l.landed (has g qg) b;
         not_early = λ r q. subst (λ m. r ≤ suc m + p.rules.most) (sym (earlier_in n t r rs d in' l.whole))
             (place r (has r q)).0;
-        not_late = λ r q. subst (λ m. suc m ≤ r + p.rules.back r) (sym (earlier_in n t r rs d in' l.whole))
-            (place r (has r q)).1;
+        not_late = grind (arith, earlier_in);
       }
 
   -- ---- from the pairs to the order by seconds
@@ -158,11 +157,7 @@ module _ (p : RankedProblem) (t : ℕ → ℕ) (sound : SoundProblem p) where
         let w = walk [] (sorted t n) refl in
         record {
           legal = prefix_legal p.rules sound.low (sorted t n)
-              (record {
-                placed = w.0;
-                none_due =
-                    λ x one le. let l = length-sorted t n in in_sorted t n x (one, omega arith);
-              });
+              (search (arith, length-sorted, in_sorted));
           whole = length-sorted t n;
           landed = w.1;
         }
@@ -187,5 +182,4 @@ module _ (p : RankedProblem) (t : ℕ → ℕ) (sound : SoundProblem p) where
     where
       go : (rs : List ℕ) → Descends t rs → In r rs → t r ≤ (latest_landing (at_seconds t rs)).1
       go [] d i = absurd i
-      go (x ∷ rs) d (inl e) = omega (arith, ap t e)
-      go (x ∷ rs) d (inr i) = omega arith
+      go (x ∷ rs) d i = grind arith

@@ -178,20 +178,7 @@ module _ (p : RankedProblem) (sound : SoundProblem p) (first : ℕ → ℕ → O
                 let v_u : value (pair_of cost us) ≤ v =
                 subst (λ q. value q ≤ v) (sym pa) (le_trans (bu.least t tf.0) v_t) in
                 let w = within us (subst (Legal p.rules) (sym (ranks_at u su)) fl.legal) fl.landed
-                (ap length (ranks_at u su) ∙ fl.whole) v_u in
-                let gu : OrderWithinBudget first (next_from p) cost (Legal p.rules) node
-                (λ z. stage z ≡ n) Low budget su =
-                record {
-                  legal = fl.legal;
-                  final = staged su ∙ fl.whole;
-                  landings = us;
-                  earliest_is = tight_earliest p sound first opens u tu;
-                  low = w.0;
-                  cheap = w.1;
-                } in
-                subst (λ l. NoGreaterOrder l os) qs_is
-                (f.1 os (subst (λ l. OrderWithinBudget first (next_from p) cost (Legal p.rules) node
-                (λ z. stage z ≡ n) Low budget l) (sym (in_order_sorted p u sound bu.feasible os ou)) gu));
+                (ap length (ranks_at u su) ∙ fl.whole) v_u in grind (arith, tight_earliest, in_order_sorted);
           },
           e,
         )

@@ -87,11 +87,7 @@ module _ (p : RankedProblem) (sound : SoundProblem p) (first : ℕ → ℕ → O
       let e = earliest_least _ _ _ opens (next_later p) _ l.landed in
       let is = ap (earliest first (next_from p)) (sym (ranks_at t rs)) ∙ e.1 in
       let le = mono (pair_of cost e.0) (pair_of cost (at_seconds t rs))
-      (no_later_latest e.0 _ e.2, no_later_cost _ dearer e.0 _ e.2) in
-      record {
-        lands = record { legal = l.legal; landings = e.0; landings_are = is };
-        cheap = let a = ap worth_of is in let b = ap value (pair_all p cost sound t rs l) in omega arith;
-      }
+      (no_later_latest e.0 _ e.2, no_later_cost _ dearer e.0 _ e.2) in grind (arith, pair_all)
 
   -- the value of a tight map is what its order is worth
   tight_worth : (t : ℕ → ℕ) → Tight p t → worth (sorted t p.rules.count) ≡ value (second_and_cost cost p.rules.count t)
@@ -119,9 +115,7 @@ module _ (p : RankedProblem) (sound : SoundProblem p) (first : ℕ → ℕ → O
           best = record {
             feasible = tf.0;
             least = λ v fv.
-                let o = feasible_ordered v fv in
-                let b = a.least (sorted v n) (sorted_ranks v) o.lands in
-                elim b [ inl lt ↦ omega arith | inr e ↦ (omega arith) ];
+                let o = feasible_ordered v fv in grind (arith, sorted, sorted_ranks);
           };
           tight = et.0;
           least = λ v bv tv qs os oq ov.

@@ -19,8 +19,7 @@ from_none test x (suc m) e y le lt = go _ refl e (λ f l. from_none test _ m f y
   where
     go : (b : Bool) → test x ≡ b → cond b (Some x) (first_from test (suc x) m) ≡ None
         → (first_from test (suc x) m ≡ None → suc x ≤ y → test y ≡ false) → test y ≡ false
-    go true q e more = absurd (cc)
-    go false q e more = elim (cases_eq y x) [ inl s ↦ ap test s ∙ q | inr ne ↦ more e (omega arith) ]
+    go b q e more = grind (arith, cases_eq)
 
 -- ---- elements, where none passes
 

@@ -15,5 +15,4 @@ pub few_above : (g : OrderRules) (rs : List ℕ) (r : ℕ) → EachFits g rs →
 few_above g rs r p =
     let one = count_is (λ x. nat_lt r x) rs in
     let same = count_weaker _ _ rs (λ x i q. and_from (ltb r x) _ q (le-leb x _ (in_below g x rs p i))) in
-    let b = count_between r (length rs + g.most) rs (each_fits_distinct g rs p) in
-    omega arith
+    let b = count_between r (length rs + g.most) rs (each_fits_distinct g rs p) in omega arith

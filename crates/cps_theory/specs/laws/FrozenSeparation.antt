@@ -16,8 +16,7 @@ module _ (s : ℕ → ℕ → ℕ) (triangle : (a b c : ℕ) → s a c ≤ s a b
     where
       go : In f frozen ⊎ In f waiting → In g frozen ⊎ In g waiting → t f + s f g ≤ t g
       go (inl a) (inl b) = af f g a b ne le
-      go (inr a) (inr b) = aw f g a b ne le
-      go (inr a) (inl b) = absurd (omega arith)
+      go (inr a) h = grind arith
       go (inl a) (inr b) = elim (cases_eq f x) [
         | inl e ↦ rw e (start g b)
         | inr nx ↦ omega (arith, triangle f x g)

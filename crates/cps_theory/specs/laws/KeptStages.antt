@@ -35,7 +35,7 @@ agree_legal d g g' agree (r ∷ rs) l lt =
           not_early = omega (arith, f.not_early);
           not_late = let a = f.not_late in omega arith;
           after = λ a b. elim (cases_lt a d) [
-            | inl a_low ↦ f.after a (agree.same_before a r a_low low b)
+            | inl a_low ↦ grind arith
             | inr high ↦ let h = agree.same_above a r high low b in absurd (let i =
                 in_low d h.0 rs (low_ranks g d rs (legal_each_fits g rs l.1) (omega arith)) (f.after h.0 h.2) in omega
                 arith)

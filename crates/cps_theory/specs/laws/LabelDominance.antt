@@ -35,9 +35,7 @@ module _ (Open : ℕ → ℕ → Type 0) (first : ℕ → ℕ → Option ℕ) (a
       → (Landed Open after ((r, p.0) ∷ xs)) × (pair_of cost ((r, p.0) ∷ xs) ≡ p)
   next_lands xs r p l e =
       let m = mapped _ _ p (rw (last_ranks xs) at e) in
-      let found = opens.found r (after (latest_landing xs).0 (latest_landing xs).1 r) m.0 m.1 in
-      subst (λ x. (Landed Open after ((r, x.0) ∷ xs)) × (pair_of cost ((r, x.0) ∷ xs) ≡ x)) m.2
-      ((found.0, found.1, l), refl)
+      let found = opens.found r (after (latest_landing xs).0 (latest_landing xs).1 r) m.0 m.1 in grind arith
 
   -- what is closed under successors has for each legal landed prefix a pair no later and no dearer
   pub closed_covers : (Legal : List ℕ → Type 0) → ((r : ℕ) (rs : List ℕ) → Legal (r ∷ rs) → Legal rs)
@@ -46,7 +44,4 @@ module _ (Open : ℕ → ℕ → Type 0) (first : ℕ → ℕ → Option ℕ) (a
   closed_covers Legal shorter Listed closed [] legal l = ((0, 0), closed.start, (le_refl 0, le_refl 0))
   closed_covers Legal shorter Listed closed (x ∷ xs) legal l =
       let before = closed_covers _ shorter _ closed xs (shorter x.0 (ranks xs) legal) l.2 in
-      let c = next_covers _ _ _ x.0 x.1 before.2 l.0 l.1 in
-      let e = ap (λ k. next_pair first after cost k before.0 x.0) (last_ranks xs) ∙ c.1 in
-      let s = closed.step x.0 (ranks xs) legal before.0 c.0 before.1 e in
-      (s.0, s.1, no_worse_trans s.0 c.0 _ s.2 c.2)
+      let c = next_covers _ _ _ x.0 x.1 before.2 l.0 l.1 in grind arith

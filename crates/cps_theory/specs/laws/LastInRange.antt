@@ -61,6 +61,5 @@ module _ {F : Type 0} {g : Mut F (Bor ℕ × Unit {0}) Bool} (P : ℕ → Type 0
         omega (arith, number),
         (answers n _ passed.0).0 refl,
         λ k above high.
-            let earlier : last - k < place = omega (arith, number, above, high, most, long) in
-            fails_at k _ (down.2 k high (omega (arith, earlier, long, high))) (some_is _ (passed.1 (last - k) earlier)),
+            let earlier : last - k < place = omega (arith, number, above, high, most, long) in grind arith,
       )

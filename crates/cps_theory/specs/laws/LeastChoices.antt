@@ -50,14 +50,7 @@ module _ (W : Type 0) (Open : ℕ → ℕ → Type 0) (first : ℕ → ℕ → O
         let ws = onto done.rest zs in
         let e = earliest_least _ _ _ opens later ws f.1 in (
           ranks done.rest,
-          subst Good (ranks_onto done.rest zs) (record {
-            legal = f.0;
-            final = f.2;
-            landings = e.0;
-            earliest_is = e.1;
-            low = no_later_low Low lower e.0 ws e.2 f.3;
-            cheap = omega (arith, no_later_cost cost dearer e.0 ws e.2);
-          }),
+          subst Good (ranks_onto done.rest zs) (grind (arith, no_later_low, no_later_cost)),
         )
 
     -- the next rank of a good order is a choice
@@ -145,7 +138,7 @@ module _ (W : Type 0) (Open : ℕ → ℕ → Type 0) (first : ℕ → ℕ → O
         let c = good_choice rs xs e o os good in
         let le = g.2 o c.0 c.1 in
         elim (cases_lt r o) [
-          | inl lt ↦ inl lt
+          | inl lt ↦ grind arith
           | inr ge ↦
               let same : o ≡ r = omega arith in
               let m = choice_more rs xs l e r g.0 g.1 in
@@ -167,8 +160,7 @@ module _ (W : Type 0) (Open : ℕ → ℕ → Type 0) (first : ℕ → ℕ → O
     choice_goes_on rs xs l e a r t c =
         let m = choice_more rs xs l e r t c in
         let lands = earliest_lands _ _ after opens _ _ m.1 in
-        let g = can_end_within_good r t xs (rw lands.1 m.0) lands.0 (m.2, a) (let o = c.can_end in
-        (o.0, subst (λ v. Keeps v o.0) (sym (net.pushes r rs l) ∙ ap node (sym lands.1)) o.1, o.2, o.3)) in
+        let g = can_end_within_good r t xs (rw lands.1 m.0) lands.0 (m.2, a) (grind arith) in
         (g.0, subst (λ zs. Good (onto g.0 zs)) lands.1 g.1)
 
     -- the first of all good orders

@@ -45,13 +45,7 @@ module _ (p : RankedProblem) (cost : ℕ → ℕ → ℕ) (sound : SoundProblem 
       × (pair_of cost xs ≡ second_and_cost cost p.rules.count t)
   feasible_landing_trail t f =
       let rs = sorted t p.rules.count in
-      let l = feasible_lands p t sound f in (
-        at_seconds t rs,
-        rw (ranks_at t rs) l.legal,
-        l.landed,
-        ap length (ranks_at t rs) ∙ l.whole,
-        pair_all t rs l,
-      )
+      let l = feasible_lands p t sound f in grind (arith, ranks_at, pair_all)
 
   -- and such an order makes feasible seconds
   pub landing_trail_feasible : (xs : List Landing) → Legal p.rules (ranks xs)
@@ -85,5 +79,4 @@ module _ (p : RankedProblem) (cost : ℕ → ℕ → ℕ) (sound : SoundProblem 
       pub closed_certificate_infeasible : ((w : PatternNode) (q : Pair) → w.0 ≡ p.rules.count → Lists w q → ⊥)
           → (t : ℕ → ℕ) → Feasible p t → ⊥
       closed_certificate_infeasible none t f =
-          let x = feasible_landing_trail t f in
-          closed_landings_infeasible _ _ _ _ opens (next_later p) dearer _ ones _ c none x.0 x.1 x.2 x.3
+          let x = feasible_landing_trail t f in search (arith, closed_landings_infeasible, next_later, ones)

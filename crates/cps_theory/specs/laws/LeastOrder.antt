@@ -65,18 +65,7 @@ module _ (n : ℕ) (P : List ℕ → Type 0) (decide : (xs : List ℕ) → Decid
     ];
   })
   one_more m j build lt (inl a) (inl b) = elim (total (build (a.head ∷ a.tail)) (build (suc j ∷ b.end))) [
-    | inl before ↦ inl (record {
-      head = a.head;
-      tail = a.tail;
-      ranks = a.ranks;
-      holds = a.holds;
-      least = λ y ys le r h. elim (head_cases j y le) [
-        | inl low ↦ a.least y ys low r h
-        | inr e ↦ subst (λ z. Before (build (a.head ∷ a.tail)) (build (z ∷ ys))) (sym e)
-            (chain (build (a.head ∷ a.tail)) (build (suc j ∷ b.end)) (build (suc j ∷ ys)) before
-            (b.least ys (tail_ranks m y ys r) (subst (λ z. P (build (z ∷ ys))) e h)))
-      ];
-    })
+    | inl before ↦ grind arith
     | inr after ↦ inl (record {
       head = suc j;
       tail = b.end;

@@ -16,9 +16,7 @@ kept_undominated Attains Keeps k anti p kept = record {
   attained = k.attained p kept;
   best = λ q a le.
       let c = k.covers q a in
-      let e = anti c.0 p c.1 kept (no_worse_trans c.0 q p c.2 le) in
-      ap₂ (λ x y. (x, y)) (le_antisymm le.0 (subst (λ x. x.0 ≤ q.0) e c.2.0))
-      (le_antisymm le.1 (subst (λ x. x.1 ≤ q.1) e c.2.1));
+      let e = anti c.0 p c.1 kept (no_worse_trans c.0 q p c.2 le) in grind arith;
 }
 
 pub undominated_kept : (Attains Keeps : Pair → Type 0) → Kept Attains Keeps → (p : Pair) → Undominated Attains p
@@ -91,8 +89,6 @@ module _ (W : Type 0) (Open : ℕ → ℕ → Type 0) (first : ℕ → ℕ → O
       | inr z ↦
           let k = (sources z.0 z.1 z.4 z.5).covers z.2 z.3 in
           let c = next_covers Open first after cost opens later dearer (newest z.0) k.0 z.2 z.1 q.0 k.2 z.6 z.7 in
-          let n = enough z.0 z.1 k.0 c.0 z.4 z.5 k.1 c.1 in
-          let le : NoWorse c.0 q = omega arith in
-          (n.0, n.1, no_worse_trans n.0 c.0 q n.2 le)
+          let n = enough z.0 z.1 k.0 c.0 z.4 z.5 k.1 c.1 in grind arith
     ];
   }

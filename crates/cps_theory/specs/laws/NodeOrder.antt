@@ -72,8 +72,7 @@ module _ {S : Type 0} (node_of : S → PatternNode) (pairs_of : S → List Pair)
       → is_lt (node_cmp (node_of (get_or ss (k + 1) d)) (node_of (get_or ss k d))) ≡ false
   adjacent (a ∷ b ∷ rest) h zero d lt = grind (arith, node_total, less_of)
   adjacent (a ∷ b ∷ rest) h (suc k) d lt =
-      let e : suc k + 1 ≡ suc (k + 1) = omega arith in
-      rw e (adjacent (b ∷ rest) h.1 k d (omega arith))
+      let e : suc k + 1 ≡ suc (k + 1) = omega arith in grind (arith, adjacent (b ∷ rest), adjacent (b ∷ rest) h.1 k d)
   adjacent ss h k d lt = grind arith
 
   pub non_decreasing : (w : PatternNode) (ss : List S) → InNodeOrder node_of pairs_of ss
@@ -108,9 +107,7 @@ module _ {S : Type 0} (node_of : S → PatternNode) (pairs_of : S → List Pair)
   unfolding covers
   found_covers w q [] h i d lt e = absurd (omega arith)
   found_covers w q (s ∷ ss) h zero d lt e =
-      let rest = none_covers w q ss (λ k f l. ap is_eq (after_equal s _ w (head_below s ss h k f l) e)) in
-      let here : covers_at node_of pairs_of w q s ≡ list_any (λ o. no_worse o q) (pairs_of s) = cc in
-      rw (rest, here) (or_false _)
+      let rest = none_covers w q ss (λ k f l. ap is_eq (after_equal s _ w (head_below s ss h k f l) e)) in grind arith
     where
       or_false : (b : Bool) → b || false ≡ b
       or_false true = refl

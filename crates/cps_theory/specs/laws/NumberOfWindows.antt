@@ -21,7 +21,7 @@ as_number_below m (x ∷ xs) a = omega (arith, mul-add-lt _ m x _ (as_number_bel
 
 same_parts : (m a b x y : ℕ) → x < m → y < m → a * m + x ≡ b * m + y → (a ≡ b) × (x ≡ y)
 same_parts m a b x y lx ly e = elim (cases_order a b) [
-  | inl s ↦ let t = ap (λ z. z * m) s in (s, omega arith)
+  | inl s ↦ grind arith
   | inr (inl lt) ↦ absurd (omega (arith, mul-add-lt a m x b lt lx))
   | inr (inr lt) ↦ absurd (omega (arith, mul-add-lt b m y a lt ly))
 ]
@@ -30,8 +30,7 @@ as_number_same : (m : ℕ) (xs ys : List ℕ) → length xs ≡ length ys → Al
     → AllByRecursion (λ x. x < m) ys → as_number m xs ≡ as_number m ys → xs ≡ ys
 as_number_same m [] [] l a b e = refl
 as_number_same m (x ∷ xs) (y ∷ ys) l a b e =
-    let s = same_parts m _ _ x y a.0 b.0 e in
-    ap₂ ◌∷◌ s.1 (as_number_same m xs ys (omega arith) a.1 b.1 s.0)
+    let s = same_parts m _ _ x y a.0 b.0 e in grind (arith, as_number_same m xs, as_number_same m xs ys)
 as_number_same m xs ys l a b e = cc
 
 numbers_differ : (m n : ℕ) (w : List ℕ) (ws : List (List ℕ)) → Sized m n w → AllByRecursion (Sized m n) ws
@@ -54,5 +53,4 @@ length-numbers m ws = grind (arith, common_steps)
 
 pub few_lists : (m n : ℕ) (ws : List (List ℕ)) → AllByRecursion (Sized m n) ws → DistinctLists ws → length ws ≤ m ^ n
 few_lists m n ws a d =
-    let f = few_ranks _ _ (distinct_numbers m n ws a d) (λ x i. in_range m n x ws a i) in
-    rw (length-numbers m ws) at f
+    let f = few_ranks _ _ (distinct_numbers m n ws a d) (λ x i. in_range m n x ws a i) in grind (arith, length-numbers)

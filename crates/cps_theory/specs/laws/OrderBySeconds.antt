@@ -17,10 +17,7 @@ descends_equal t (x ∷ xs) (y ∷ ys) d e f g = ap₂ (λ z zs. z ∷ zs) same 
     same : x ≡ y
     same = elim (f x (inl refl)) [
       | inl s ↦ s
-      | inr i ↦ elim (g y (inl refl)) [
-        | inl s ↦ sym s
-        | inr j ↦ absurd (omega (arith, e.0 x i))
-      ]
+      | inr i ↦ grind arith
     ]
 
     forth : (z : ℕ) → In z xs → In z ys
@@ -51,8 +48,7 @@ pub sorted_in_order : (p : RankedProblem) (t : ℕ → ℕ) → SoundProblem p �
 sorted_in_order p t sound f = record {
   ranked = λ x i. elim (onto_in x (sorted t p.rules.count) [] i) [
     | inl j ↦ sorted_in t p.rules.count x j
-    | inr j ↦
-        absurd j
+    | inr j ↦ search
   ];
   whole = λ x r. in_onto x (sorted t p.rules.count) [] (inl (in_sorted t p.rules.count x r));
   ascends = onto_ascends t (sorted t p.rules.count) [] (separate p t sound f) tt (λ q r i j. absurd i);

@@ -52,15 +52,40 @@ is_next g ones rs Here same r m = grind (arith, same)
 module _ (g : OrderRules) (ones : (a r : ℕ) → g.before a r ≡ true → 1 ≤ a) where
   pub same : (rs : List ℕ) → Legal g rs → (x : ℕ) → 1 ≤ x → In x rs ↔ IsPlacedByPattern g (pattern_node g rs) x
   same rs l x one =
-      grind (arith, get_or-tests, digit_member, cases_lt, in_below, legal_each_fits, in_member, legal_none_due,
-          member_in, false≢true, get_or-tests_past)
+      grind (
+        arith,
+        get_or-tests,
+        digit_member,
+        cases_lt,
+        in_below,
+        legal_each_fits,
+        in_member,
+        legal_none_due,
+        member_in,
+        false≢true,
+        get_or-tests_past,
+      )
 
   pushed : (rs : List ℕ) (r : ℕ) → Legal g rs → (y : ℕ) → suc (suc (length rs)) ≤ y
       → y < suc (suc (length rs)) + 2 * g.most → pattern_digit g.most (r ∷ rs) y ≡ eqb y (r + g.most)
       || get_or (pattern_node g rs).1 (y - suc (length rs)) false
   pushed rs r l y from to =
-      grind (arith, cases_lt, get_or-tests, in_below, legal_each_fits, lt-leb, not_member, get_or-tests_past, cases_eq,
-          eq-eqb, ne_eqb, le-leb, or_left, or_right)
+      grind (
+        arith,
+        cases_lt,
+        get_or-tests,
+        in_below,
+        legal_each_fits,
+        lt-leb,
+        not_member,
+        get_or-tests_past,
+        cases_eq,
+        eq-eqb,
+        ne_eqb,
+        le-leb,
+        or_left,
+        or_right,
+      )
 
   pub pattern_network : Network PatternNode (Legal g) (pattern_node g) (PatternPermits g)
       (pattern_push g) pattern_newest
@@ -68,9 +93,6 @@ module _ (g : OrderRules) (ones : (a r : ℕ) → g.before a r ≡ true → 1 �
     empty = tt;
     grows = λ r rs l m. (is_next g ones rs _ (same rs l) r m, l);
     shrinks = λ r rs l. (l.1, may_come g rs _ (same rs l.1) r l.0);
-    pushes = λ r rs l. ap (λ w. (suc (length rs), w, r))
-        (tests_agree (pattern_digit g.most (r ∷ rs)) (λ y. eqb y (r + g.most)
-        || get_or (pattern_node g rs).1 (y - suc (length rs)) false) (suc (suc (length rs)))
-        (2 * g.most) (pushed rs r l));
+    pushes = grind (arith, tests_agree, pushed);
     newest_is = λ rs l. refl;
   }

@@ -43,9 +43,7 @@ passing_parts t y (suc a) b =
     let e : suc a + b ≡ suc (a + b) = omega arith in
     let f : suc y + a ≡ y + suc a = omega arith in
     let c = ap (passing t y) e in
-    let d = passing_parts t (suc y) a b in
-    let g = ap (λ x. passing t x b) f in
-    omega arith
+    let d = passing_parts t (suc y) a b in grind arith
 
 passing_agree : (t u : ℕ → Bool) (y m : ℕ) → ((x : ℕ) → y ≤ x → x < y + m → u x ≡ t x) → passing u y m ≡ passing t y m
 passing_agree t u y zero h = refl
@@ -65,12 +63,7 @@ module _ (g : OrderRules) (low : (r : ℕ) → g.back r ≤ g.most) where
   k_digits_set [] l =
       let k = g.most in
       let t = pattern_digit k [] in
-      let e : 2 * k ≡ k + k = omega arith in
-      let a = passing_parts t 1 k k in
-      let b = passing_all t 1 k (λ x le lt. ap (λ b. b || false) (le-leb x k (omega arith))) in
-      let c = passing_none t (1 + k) k (λ x le lt. ap (λ b. b || false) (lt-leb x k (omega arith))) in
-      let d = ap (passing t 1) e in
-      omega arith
+      let e : 2 * k ≡ k + k = omega arith in grind (arith, passing_parts, passing_all, le-leb, passing_none, lt-leb)
   k_digits_set (r ∷ rs) l =
       let k = g.most in
       let p = length rs in
@@ -129,13 +122,5 @@ module _ (g : OrderRules) (low : (r : ℕ) → g.back r ≤ g.most) where
             (λ i. let d = (in_from_one g (y - k) (r ∷ rs) placed i).1 in absurd (omega arith)));
         latest = l.0.fits.to_count;
         near = (omega arith, l.0.fits.not_early);
-        latest_placed = elim (cases_lt p (r + k)) [
-          | inl lt ↦
-              (let at : suc p + (r + k - suc p) ≡ r + k = omega arith in
-              let of_r : r + k - k ≡ r = omega arith in
-              inr (get_or-tests t (suc p) (2 * k) (r + k - suc p) (omega arith) ∙ ap t at
-              ∙ ap₂ (λ a b. a || b) (lt-leb (r + k) k (omega arith)) (ap (λ x. is_member x (r ∷ rs)) of_r
-              ∙ in_member r (r ∷ rs) (inl refl))))
-          | inr le ↦ inl le
-        ];
+        latest_placed = grind (arith, cases_lt, get_or-tests, lt-leb, in_member);
       }

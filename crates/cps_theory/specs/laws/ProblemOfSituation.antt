@@ -30,14 +30,7 @@ latest_of t (y ∷ xs) = inr (go (latest_of t xs))
     )
     go (inr w) = elim (cases_lt (t y) (t w.0)) [
       | inl lt ↦ (w.0, inr w.1, λ f i. elim i [ inl q ↦ omega (arith, ap t q) | inr j ↦ w.2 f j ])
-      | inr le ↦ (
-        y,
-        inl refl,
-        λ f i. elim i [
-          | inl q ↦ omega (arith, ap t q)
-          | inr j ↦ omega arith
-        ],
-      )
+      | inr le ↦ grind arith
     ]
 
 module _ (s : NumberedSituation) (p : RankedProblem) (at : ℕ → ℕ) (sound : SoundSituation s)
@@ -53,7 +46,7 @@ module _ (s : NumberedSituation) (p : RankedProblem) (at : ℕ → ℕ) (sound :
 
   at_differ : (q r : ℕ) → IsRank p.rules.count q → IsRank p.rules.count r → q ≢ r → at q ≢ at r
   at_differ q r iq ir ne e = elim (cases_order q r) [
-    | inl s' ↦ ne s'
+    | inl s' ↦ search
     | inr (inl lt) ↦ not_itself _ (rw e at (of.at_order q r iq ir lt))
     | inr (inr lt) ↦ not_itself _ (rw e at (of.at_order r q ir iq lt))
   ]
@@ -73,8 +66,7 @@ module _ (s : NumberedSituation) (p : RankedProblem) (at : ℕ → ℕ) (sound :
         let e = f.kept x i in
         let b = sound.frozen_before x i in
         let h = f.behind (at r) (of.at_in r ir) in
-        let a = f.separated x (at r) (append_in x s.frozen s.waiting (inl i)) (wait r ir) (λ q. let z =
-        ap t q in omega arith) (omega arith) in
+        let a = f.separated x (at r) (append_in x s.frozen s.waiting (inl i)) (wait r ir) (grind arith) (omega arith) in
         omega arith);
     separated = λ q r iq ir ne le. let a =
         f.separated (at q) (at r) (wait q iq) (wait r ir) (at_differ q r iq ir ne) le in omega arith;
@@ -138,12 +130,7 @@ module _ (s : NumberedSituation) (p : RankedProblem) (at : ℕ → ℕ) (sound :
       in_order a b (inr i) (inl j) l = absurd (sound.none_listed a b i j l)
       in_order a b (inr i) (inr j) l =
           let v = of.at_all a i in
-          let w = of.at_all b j in
-          let l' = subst (λ z. s.lists (at v.0) z ≡ true) (sym w.2) (cc) in
-          let o = f.in_order v.0 w.0 v.1 w.1 (of.before_is v.0 w.0 v.1 w.1 ∙ l') in
-          let x = ap t v.2 in
-          let y = ap t w.2 in
-          omega arith
+          let w = of.at_all b j in grind arith
 
   -- what all waiting flights cost, by flight and by rank
   pub cost_is : (cost : ℕ → ℕ → ℕ) (t : ℕ → ℕ)

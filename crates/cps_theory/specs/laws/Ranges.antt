@@ -17,8 +17,7 @@ module _ (P : ℕ → Type 0) (start end : ℕ) where
 
   each : AllWithin P numbers 0 (length numbers) → (k : ℕ) → start ≤ k → k < end → P k
   each h k a b =
-      let at : get_or numbers (k - start) 0 ≡ k =
-      omega (arith, get_or-range_with_len start (end - start) (k - start) 0 (omega arith)) in
+      let at : get_or numbers (k - start) 0 ≡ k = grind (arith, get_or-range_with_len) in
       subst P at (h (k - start) 0 (omega arith) (omega (arith, length-range_with_len start (end - start))))
 
   some : (i : ℕ) × (i < length numbers) × HoldsAt P numbers i → (k : ℕ) × (start ≤ k) × (k < end) × P k
@@ -40,7 +39,7 @@ module _ {F : Type 0} {g : Mut F (ℕ × Unit {0}) Bool} (P : ℕ → Type 0) (s
           → IsTrue b ↔ ((k : ℕ) → s.start ≤ k → k < s.end → P k)
       by true h = (λ t. each P _ _ h, λ h. refl)
       by false h = (
-        λ t. absurd (false≢true t),
+        grind arith,
         λ all. let x = some (λ x. P x → ⊥) _ _ h in absurd (x.3 (all x.0 x.1 x.2)),
       )
 

@@ -56,11 +56,7 @@ count_between x (suc b) rs d =
             | inr ne ↦ inl (and_from _ _ p.0 (le-leb r b (omega arith)))
           ]) in
           omega arith
-      | inr le ↦
-          let none = count_none _ rs
-          (λ r i q. let p = and_parts (ltb x r) (leb r (suc b)) q in let a = ltb-true x r p.0 in let c =
-          leb-true r _ p.1 in omega arith) in
-          omega arith
+      | inr le ↦ grind arith
     ]
 
 pub count_filter : (p q : ℕ → Bool) (xs : List ℕ) → count p (filter q xs) ≡ count (λ x. q x && p x) xs
@@ -75,9 +71,7 @@ count_map p h (x ∷ xs) = ap (λ n. cond (p (h x)) 1 0 + n) (count_map p h xs)
 pub count_weaker : (p q : ℕ → Bool) (xs : List ℕ) → ((x : ℕ) → In x xs → p x ≡ true → q x ≡ true)
     → count p xs ≤ count q xs
 count_weaker p q xs h =
-    let a = count_cover p q (λ x. false) xs (λ x i e. inl (h x i e)) in
-    let b = count_none _ xs (λ x i e. false≢true e) in
-    omega arith
+    let a = count_cover p q (λ x. false) xs (λ x i e. inl (h x i e)) in grind (arith, count_none, false≢true)
 
 -- and more, where it holds of one more
 pub count_stricter : (p q : ℕ → Bool) (y : ℕ) (xs : List ℕ) → In y xs → p y ≡ false → q y ≡ true

@@ -13,9 +13,8 @@ pub ranks_folded : {X : Type 0} (step : X → ℕ → X) (so_far : ℕ → X)
 ranks_folded step so_far more n = from n 0 1 n (omega arith) (omega arith)
   where
     from : (m a b c : ℕ) → b ≡ suc a → c ≡ m + a → fold step (so_far a) (range_with_len b m) ≡ so_far c
-    from zero a b c e is = ap so_far (omega arith)
-    from (suc m) a b c e is = ap (λ x. fold step x (range_with_len (b + 1) m)) (ap (step (so_far a)) e ∙ more a)
-        ∙ from m _ _ c (omega arith) (omega arith)
+    from zero a b c e is = grind arith
+    from (suc m) a b c e is = grind (arith, from m)
 
 pub greatest_least : (t : ℕ → ℕ) (n m : ℕ) → ((r : ℕ) → IsRank n r → t r ≤ m) → greatest t n ≤ m
 greatest_least t zero m h = omega arith
@@ -40,6 +39,5 @@ count_below (suc n) r one le =
     elim (cases_eq r (suc (suc n))) [
       | inl e ↦ let a = count_length (λ q. ltb q r) (suc n ∷ upto n) (λ x i. let b =
           in_upto (suc n) x i in lt-ltb x r (omega arith)) in let c = length-upto n in omega arith
-      | inr ne ↦ let a = ap (λ b. cond {A = ℕ} b 1 0) (le-ltb (suc n) r (omega arith)) in let b =
-          (count_below n r one) (omega arith) in omega arith
+      | inr ne ↦ grind (arith, le-ltb, count_below n, count_below n r one)
     ]

@@ -17,9 +17,7 @@ drop_one x (r ∷ rs) = cond (eqb x r) rs (r ∷ drop_one x rs)
 -- no more different ranks than n
 pub few_ranks : (n : ℕ) (rs : List ℕ) → Distinct rs → ((x : ℕ) → In x rs → IsRank n x) → length rs ≤ n
 few_ranks n rs d in' =
-    let a = count_between 0 n rs d in
-    let b = count_length _ rs (λ r i. let q = in' r i in and_from _ _ (lt-ltb 0 r (omega arith)) (le-leb r n q.1)) in
-    omega arith
+    let a = count_between 0 n rs d in grind (arith, count_length, and_from, lt-ltb, le-leb)
 
 -- so n of them are all of them
 pub all_ranks : (n : ℕ) (rs : List ℕ) → Distinct rs → ((x : ℕ) → In x rs → IsRank n x) → length rs ≡ n

@@ -37,10 +37,7 @@ module _ (comes_before : ℕ → ℕ → Bool) (order : FirstCome comes_before) 
   ranks_differ (x ∷ xs) d in' = (λ i. apart xs d.0 (λ y j. in' y (inr j)) i, ranks_differ xs d.1 (λ y j. in' y (inr j)))
     where
       unequal : (y : ℕ) → In y waiting → x ≢ y → rank x ≢ rank y
-      unequal y j ne e = elim (cases_Bool _) [
-        | inl b ↦ omega (arith, rank_rises x y (in' x (inl refl)) b)
-        | inr b ↦ let r = rank_rises y x j (order.total x y ne b) in omega arith
-      ]
+      unequal y j ne e = grind (arith, cases_Bool, rank_rises)
 
       apart : (ys : List ℕ) → (In x ys → ⊥) → ((y : ℕ) → In y ys → In y waiting) → In (rank x) (map rank ys) → ⊥
       apart [] out in'' i = i
@@ -62,8 +59,7 @@ module _ (comes_before : ℕ → ℕ → Bool) (order : FirstCome comes_before) 
       let r = rank_rises f g i q in
       let p = place_rises g f w.0 (omega arith) in
       let s = shift_of g w.0 in
-      and_from _ _ (lt-ltb (rank f) (rank g) r) (le-leb (rank g) (place f - 1 + k) (omega (arith, s.0)))) in
-      omega arith
+      and_from _ _ (lt-ltb (rank f) (rank g) r) (le-leb (rank g) (place f - 1 + k) (omega (arith, s.0)))) in omega arith
 
   -- so a flight that stays keeps the rule, also if it may go back less by as many as overtook it
   pub stays_shifted : (f : ℕ) → In f waiting → h ≤ t f
@@ -85,8 +81,4 @@ module _ (comes_before : ℕ → ℕ → Bool) (order : FirstCome comes_before) 
       elim (cases_Bool _) [
         | inl b ↦ inr (inl (yes', order.one_way f g b, b))
         | inr b ↦ inl (yes', order.total f g ne b, b)
-      ]) in
-      let e = count_is (λ g. comes_before f g) froze in
-      let r' = count_is (λ g. comes_before g f) stay in
-      let p' = count_is (λ g. nat_lt (t g) (t f)) stay in
-      (omega (arith, s.0, s.1), omega (arith, s.0, s.1))
+      ]) in grind (arith, count_is)

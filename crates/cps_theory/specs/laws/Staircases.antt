@@ -21,9 +21,7 @@ staircase_same (p ∷ ps) (q ∷ qs) s t a b =
     ap₂ ◌∷◌ e (staircase_same ps qs s.1 t.1 (λ x i. rest_a e x i (a x (inr i))) (λ x i. rest_b e x i (b x (inr i))))
   where
     heads : (p ≡ q) ⊎ InPairs p qs → (q ≡ p) ⊎ InPairs q ps → p ≡ q
-    heads (inl e) _ = e
-    heads (inr i) (inl e) = sym e
-    heads (inr i) (inr j) = absurd (omega (arith, (t.0 p i).0))
+    heads x h = grind arith
 
     rest_a : p ≡ q → (x : Pair) → InPairs x ps → (x ≡ q) ⊎ InPairs x qs → InPairs x qs
     rest_a e x i (inr j) = j
@@ -40,9 +38,7 @@ sweep_in c (p ∷ ps) q i = go _ refl i (sweep_in p.1 ps q) (sweep_in c ps q)
     go : (b : Bool) → ltb p.1 c ≡ b → InPairs q (cond b (p ∷ sweep p.1 ps) (sweep c ps))
         → (InPairs q (sweep p.1 ps) → InPairs q ps × (q.1 < p.1)) → (InPairs q (sweep c ps) → InPairs q ps × (q.1 < c))
         → ((q ≡ p) ⊎ InPairs q ps) × (q.1 < c)
-    go true e (inl s) h k = (inl s, let a = ltb-true p.1 c e in let b = ap (λ (z : Pair). z.1) s in omega arith)
-    go true e (inr j) h k = let a = h j in let b = ltb-true p.1 c e in (inr a.0, omega arith)
-    go false e j h k = let a = k j in (inr a.0, a.1)
+    go b e j h k = grind (arith, ltb-true)
 
 pub sweep_subset : (c : ℕ) (ps : List Pair) (q : Pair) → InPairs q (sweep c ps) → InPairs q ps
 sweep_subset c ps q i = (sweep_in c ps q i).0
@@ -53,8 +49,7 @@ sweep_staircase c (p ∷ ps) o = go _ (sweep_staircase p.1 ps o.1) (sweep_stairc
   where
     go : (b : Bool) → Staircase (sweep p.1 ps) → Staircase (sweep c ps)
         → Staircase (cond b (p ∷ sweep p.1 ps) (sweep c ps))
-    go true h k = (λ q i. let a = sweep_in p.1 ps q i in (omega arith), h)
-    go false h k = k
+    go b h k = grind (arith, sweep_in)
 
 pub sweep_covers : (c : ℕ) (ps : List Pair) → InPairOrder ps → (q : Pair) → InPairs q ps
     → ((p : Pair) × InPairs p (sweep c ps) × NoWorse p q) ⊎ (c ≤ q.1)
@@ -74,5 +69,4 @@ sweep_covers c (p ∷ ps) o q i = go _ refl i (sweep_covers p.1 ps o.1 q) (sweep
       | inl w ↦ inl (w.0, inr w.1, w.2)
       | inr le ↦ inl (p, inl refl, (omega arith))
     ]
-    go false e (inl s) h k = inr (let a = ltb-false p.1 c e in let b = ap (λ (z : Pair). z.1) s in omega arith)
-    go false e (inr j) h k = k j
+    go false e x h k = grind (arith, ltb-false)

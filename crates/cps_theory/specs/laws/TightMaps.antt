@@ -28,8 +28,7 @@ same_test a b c d h k = grind (arith, cases_lt, lt-ltb, le-ltb)
 same_sorted : (n : ℕ) (t u : ℕ → ℕ) → SameOrder n t u → sorted t n ≡ sorted u n
 same_sorted zero t u same = refl
 same_sorted (suc n) t u same =
-    same_insert t u _ _ (λ y i. let q = sorted_in t n y i in let s =
-    same y (suc n) (q.0, omega arith) (omega arith, omega arith) in same_test _ _ _ _ s.0 s.1)
+    same_insert t u _ _ (λ y i. let q = sorted_in t n y i in grind arith)
     ∙ ap (insert_at u (suc n)) (same_sorted n t u (λ f g qf qg. same f g (omega arith) (omega arith)))
 
 pub no_later_at : (t u : ℕ → ℕ) (rs : List ℕ) → NoLater (at_seconds t rs) (at_seconds u rs)
@@ -79,17 +78,7 @@ module _ (p : RankedProblem) (sound : SoundProblem p) (first : ℕ → ℕ → O
       let nl = subst (λ z. NoLater z (at_seconds v (sorted v n))) (sym (some_same xs _ (sym is ∙ isv)) ∙ sym same)
       ev.2 in
       let nl' = subst (λ z. NoLater (at_seconds u rs) (at_seconds v z)) (sym rv) nl in
-      no_later_at u v rs nl' r (in_sorted t n r q) in (
-        u,
-        record {
-          feasible = lands_feasible p u sound rs la;
-          least = λ v fv sv. low v fv (λ a b qa qb. let x = so a b qa qb in let y =
-              sv a b qa qb in (λ h. y.0 (x.0 h), λ h. x.1 (y.1 h)));
-        },
-        so,
-        low t f (λ a b qa qb. (λ h. h, λ h. h)),
-        is ∙ ap Some (sym same),
-      )
+      no_later_at u v rs nl' r (in_sorted t n r q) in grind (arith, lands_feasible)
 
   greatest_mono : (n : ℕ) (u t : ℕ → ℕ) → ((r : ℕ) → IsRank n r → u r ≤ t r) → greatest u n ≤ greatest t n
   greatest_mono zero u t h = le_refl 0
@@ -109,14 +98,7 @@ module _ (p : RankedProblem) (sound : SoundProblem p) (first : ℕ → ℕ → O
       × (value (second_and_cost cost p.rules.count u) ≡ value (second_and_cost cost p.rules.count t))
   best_and_tight cost dearer value mono t f least =
       let n = p.rules.count in
-      let w = tighten t f in
-      let le = mono (second_and_cost cost n w.0) (second_and_cost cost n t)
-      (greatest_mono n w.0 t w.3, total_mono _ dearer n w.0 t w.3) in (
-        w.0,
-        record { feasible = w.1.feasible; least = λ u fu. le_trans le (least u fu) },
-        w.1,
-        le_antisymm le (least w.0 w.1.feasible),
-      )
+      let w = tighten t f in grind (arith, greatest_mono, total_mono, le_trans, le_antisymm)
 
 -- an order has at most one tight map
 pub tight_unique : (p : RankedProblem) (t u : ℕ → ℕ) → Tight p t → Tight p u → SameOrder p.rules.count t u

@@ -27,8 +27,7 @@ add_covers p qs = λ q i. go _ refl q i
   where
     go : (b : Bool) → some_no_worse p qs ≡ b → (q : Pair) → (q ≡ p) ⊎ InPairs q qs
         → (o : Pair) × InPairs o (cond b qs (p ∷ without p qs)) × NoWorse o q
-    go true e q (inl s) = let r = some_in p qs e in (r.0, r.1, rw s r.2)
-    go true e q (inr i) = (q, i, (le_refl q.0, le_refl q.1))
+    go true e q x = grind (arith, some_in, le_refl)
     go false e q (inl s) = (p, inl refl, rw s (le_refl p.0, le_refl p.1))
     go false e q (inr i) = elim (without_covers p q qs i) [
       | inl l ↦ (p, inl refl, l)

@@ -47,7 +47,5 @@ same_objectives s p at sound of t f = record {
             ap t w.2 in omega arith)
       ])) (greatest_least (λ r. t (at r)) p.rules.count (latest_in t (active s))
       (λ r q. latest_at t (active s) (at r) (append_in (at r) s.frozen s.waiting (inr (of.at_in r q)))));
-  delays = λ cost. sum_append (λ x. cost x (t x)) s.frozen s.waiting
-      ∙ ap₂ ◌+◌ (sum_agree (λ x. cost x (t x)) (λ x. cost x (s.frozen_at x)) s.frozen (λ x i. ap (cost x) (f.kept x i)))
-      (cost_is s p at sound of cost t);
+  delays = grind (arith, sum_append, sum_agree, cost_is);
 }

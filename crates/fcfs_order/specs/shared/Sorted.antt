@@ -1,6 +1,7 @@
 -- Ascending arrivals: what a binary search finds in them, and what one more and one less leave.
-use Rattle.std.proofs.Common.{◌≡◌, ℕ, zero, suc, ◌+◌, ◌<◌, ◌≤◌, inl, inr, Bool, true, false, cond, List, [], ◌∷◌}
-use Rattle.std.proofs.Common.{length, get_or, refl, sym, ap, subst, ◌∙◌, arith}
+use Rattle.std.proofs.Common.{rules, ◌≡◌, ℕ, zero, suc, ◌+◌, ◌<◌, ◌≤◌, Bool, true, false, cond, List, []}
+use Rattle.std.proofs.Common.{◌∷◌, length, get_or, refl, ap, subst, ◌∙◌, arith}
+use Rattle.std.proofs.lemmas.Grind.{common_steps}
 use Rattle.std.specs.Prelude.{Contains, count_by}
 use Rattle.std.specs.declared.cmp.Ordering.{Ordering}
 use Rattle.std.specs.declared.cmp.Ordering.TheVariants.{Less, Equal, Greater}
@@ -11,7 +12,6 @@ use Rattle.std.proofs.lemmas.Bool.{cases_order}
 use Rattle.std.proofs.lemmas.Cmp.{tied_itself}
 use Rattle.std.proofs.lemmas.Map.Keys.{Less-from_sorted}
 use Rattle.std.proofs.lemmas.List.Sorted.{searchable_from_sorted}
-use Rattle.std.proofs.lemmas.List.Sums.{sum_by-cons}
 use Rattle.landing_rules.specs.Rules.{first_come_cmp}
 use Rattle.landing_rules.specs.shared.Counting.{flipped}
 use Rattle.landing_rules.specs.shared.Ranks.{first_come_total, first_come_level}
@@ -48,12 +48,7 @@ all_with : (a p : Arrival) (xs : List Arrival) → first_come_cmp a p ≡ Less
     → AllByRecursion (λ y. first_come_cmp a y ≡ Less) xs
     → AllByRecursion (λ y. first_come_cmp a y ≡ Less) (with_arrival p xs)
 all_with a p [] l h = (l, tt)
-all_with a p (x ∷ xs) l h = go (is_lt (first_come_cmp x p)) (all_with a p xs l h.1)
-  where
-    go : (b : Bool) → AllByRecursion (λ y. first_come_cmp a y ≡ Less) (with_arrival p xs)
-        → AllByRecursion (λ y. first_come_cmp a y ≡ Less) (cond b (x ∷ with_arrival p xs) (p ∷ x ∷ xs))
-    go true ih = (h.0, ih)
-    go false ih = (l, h)
+all_with a p (x ∷ xs) l h = grind (arith, all_with a p xs l h.1)
 
 all_behind : (p x : Arrival) (xs : List Arrival) → first_come_cmp p x ≡ Less
     → AllByRecursion (λ y. first_come_cmp x y ≡ Less) xs → AllByRecursion (λ y. first_come_cmp p y ≡ Less) xs
@@ -69,9 +64,7 @@ ascending_with p (x ∷ xs) absent s =
   where
     go : (r : Ordering) → first_come_cmp x p ≡ r → IsStrictlySortedBy first_come_cmp (with_arrival p xs)
         → IsStrictlySortedBy first_come_cmp (cond (is_lt r) (x ∷ with_arrival p xs) (p ∷ x ∷ xs))
-    go Less e ih = (all_with x p xs e s.0, ih)
-    go Equal e ih = absurd (absent (0, omega arith, first_come_level x p e))
-    go Greater e ih = let l = flipped first_come_cmp first_come_total x p e in ((l, all_behind p x xs l s.0), s)
+    go r e ih = search (rules, all_with, first_come_level, flipped, first_come_total, all_behind)
 
 -- ---- one less
 
@@ -79,8 +72,7 @@ pub without_at : (p : Arrival) (xs : List Arrival) (i : ℕ) → IsStrictlySorte
     → i < length xs → get_or xs i p ≡ p → without p xs ≡ remove xs i
 unfolding IsStrictlySortedBy
 without_at p [] i s lt e = absurd (omega arith)
-without_at p (x ∷ xs) zero s lt e =
-    ap (λ b. cond b xs (x ∷ without p xs)) (ap is_eq (subst (λ (y : Arrival). first_come_cmp x y ≡ Equal) e (itself x)))
+without_at p (x ∷ xs) zero s lt e = grind (arith, itself)
 without_at p (x ∷ xs) (suc i) s lt e =
     let l : first_come_cmp x p ≡ Less = subst (λ (y : Arrival). first_come_cmp x y ≡ Less) e
     (Less-from_sorted first_come_cmp (x ∷ xs) 0 (suc i) p s (omega arith) lt) in
@@ -92,19 +84,12 @@ without_none p (x ∷ xs) absent =
     go (first_come_cmp x p) refl (without_none p xs (λ c. absent (suc c.0, (let l = c.1 in omega arith), c.2)))
   where
     go : (r : Ordering) → first_come_cmp x p ≡ r → without p xs ≡ xs → cond (is_eq r) xs (x ∷ without p xs) ≡ x ∷ xs
-    go Less e ih = ap (λ l. x ∷ l) ih
-    go Equal e ih = absurd (absent (0, omega arith, first_come_level x p e))
-    go Greater e ih = ap (λ l. x ∷ l) ih
+    go r e ih = grind (arith, first_come_level)
 
 all_without : (a p : Arrival) (xs : List Arrival) → AllByRecursion (λ y. first_come_cmp a y ≡ Less) xs
     → AllByRecursion (λ y. first_come_cmp a y ≡ Less) (without p xs)
 all_without a p [] h = tt
-all_without a p (x ∷ xs) h = go (is_eq (first_come_cmp x p)) (all_without a p xs h.1)
-  where
-    go : (b : Bool) → AllByRecursion (λ y. first_come_cmp a y ≡ Less) (without p xs)
-        → AllByRecursion (λ y. first_come_cmp a y ≡ Less) (cond b xs (x ∷ without p xs))
-    go true ih = h.1
-    go false ih = (h.0, ih)
+all_without a p (x ∷ xs) h = grind (arith, all_without a p xs h.1)
 
 pub ascending_without : (p : Arrival) (xs : List Arrival) → IsStrictlySortedBy first_come_cmp xs
     → IsStrictlySortedBy first_come_cmp (without p xs)
@@ -119,32 +104,21 @@ ascending_without p (x ∷ xs) s = go (is_eq (first_come_cmp x p)) (ascending_wi
 
 pub short_without : (p : Arrival) (xs : List Arrival) → length (without p xs) ≤ length xs
 short_without p [] = omega arith
-short_without p (x ∷ xs) = go (is_eq (first_come_cmp x p)) (short_without p xs)
-  where
-    go : (b : Bool) → length (without p xs) ≤ length xs → length (cond b xs (x ∷ without p xs)) ≤ length (x ∷ xs)
-    go true ih = omega arith
-    go false ih = omega arith
+short_without p (x ∷ xs) = grind (arith, short_without p xs)
 
 pub long_with : (p : Arrival) (xs : List Arrival) → length (with_arrival p xs) ≡ length xs + 1
 long_with p [] = refl
-long_with p (x ∷ xs) = go (is_lt (first_come_cmp x p)) (long_with p xs)
-  where
-    go : (b : Bool) → length (with_arrival p xs) ≡ length xs + 1
-        → length (cond b (x ∷ with_arrival p xs) (p ∷ x ∷ xs)) ≡ length (x ∷ xs) + 1
-    go true ih = omega arith
-    go false ih = omega arith
+long_with p (x ∷ xs) = grind (arith, long_with p xs)
 
 -- ---- ranks
 
 count_less : (p x : Arrival) (xs : List Arrival) → first_come_cmp x p ≡ Less
     → count_by (λ a. is_lt (first_come_cmp a p)) (x ∷ xs) ≡ suc (count_by (λ a. is_lt (first_come_cmp a p)) xs)
-count_less p x xs e = sum_by-cons (λ (a : Arrival). cond (is_lt (first_come_cmp a p)) 1 0) x xs
-    ∙ ap (λ (r : Ordering). cond (is_lt r) 1 0 + count_by (λ a. is_lt (first_come_cmp a p)) xs) e ∙ omega arith
+count_less p x xs e = grind (arith, common_steps)
 
 count_other : (p x : Arrival) (xs : List Arrival) (r : Ordering) → is_lt r ≡ false → first_come_cmp x p ≡ r
     → count_by (λ a. is_lt (first_come_cmp a p)) (x ∷ xs) ≡ count_by (λ a. is_lt (first_come_cmp a p)) xs
-count_other p x xs r f e = sum_by-cons (λ (a : Arrival). cond (is_lt (first_come_cmp a p)) 1 0) x xs
-    ∙ ap (λ (b : Bool). cond b 1 0 + count_by (λ a. is_lt (first_come_cmp a p)) xs) (ap is_lt e ∙ f) ∙ omega arith
+count_other p x xs r f e = grind arith
 
 -- none of those behind one comes before it
 none_before : (p : Arrival) (xs : List Arrival) → AllByRecursion (λ y. first_come_cmp p y ≡ Less) xs
@@ -174,11 +148,4 @@ found p xs i lt e = first_come_level (get_or xs i p) p e
 
 pub parted : (p : Arrival) (xs : List Arrival) (i : ℕ) → AllWithin (λ y. first_come_cmp y p ≡ Less) xs 0 i
     → AllWithin (λ y. first_come_cmp y p ≡ Greater) xs i (length xs) → Contains xs p → ⊥
-parted p xs i low high c = elim (cases_order c.0 i) [
-  | inl e ↦ (let l = c.1 in no Greater (λ q. cc) (high c.0 p (omega arith) l))
-  | inr (inl lt) ↦ no Less (λ q. cc) (low c.0 p (omega arith) lt)
-  | inr (inr gt) ↦ (let l = c.1 in no Greater (λ q. cc) (high c.0 p (omega arith) l))
-]
-  where
-    no : (r : Ordering) → (Equal ≡ r → ⊥) → first_come_cmp (get_or xs c.0 p) p ≡ r → ⊥
-    no r differ e = differ (sym (itself p) ∙ subst (λ (x : Arrival). first_come_cmp x p ≡ r) c.2 e)
+parted p xs i low high c = grind (arith, cases_order, itself)

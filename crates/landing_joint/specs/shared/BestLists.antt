@@ -78,11 +78,7 @@ module _ (p : lists'.Problem) (v : Schedule) (long : length v ≡ length p.fligh
 
       go : (o : Objective) → p.objective ≡ o → lists'.list_objective p v ≡ value_of_map p (of_rank 0 v)
       go Makespan e = ap (λ o. lists'.list_cost o p v) e ∙ makespan_is _ long ∙ sym (cc)
-      go Delay e = ap (λ o. lists'.list_cost o p v) e ∙ ap (λ n. p.base + n) delay_is
-          ∙ sym (ap (λ o. value_by o p (
-            greatest (of_rank 0 v) (length p.flights),
-            total (λ r. cost_by o (of_rank no_waiting p.flights r) (of_rank 0 v r)) (upto (length p.flights)),
-          )) e)
+      go Delay e = grind (arith, delay_is)
 
 -- ---- lists that are nowhere later
 

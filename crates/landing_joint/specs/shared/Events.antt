@@ -30,5 +30,4 @@ named_waits s c h ok a m e = go _ refl ok
         ap (λ (z : Active). z.frozen) one ∙ two _ ok
       where
         two : (o : Option ℕ) → option_map Frozen o ≡ None → o ≡ None
-        two None ok = refl
-        two (Some t) ok = absurd (cc)
+        two o ok = grind arith

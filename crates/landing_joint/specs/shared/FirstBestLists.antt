@@ -214,17 +214,12 @@ module _ (p : lists'.Problem) (sound : SoundProblem (ranked p)) (passed : (r : �
       let iv = list_in_landing_order p sound v f in
       let iw = list_in_landing_order p sound w g in
       let mi = iv.whole (suc i) (omega arith, omega arith) in
-      let mj = iv.whole (suc j) (omega arith, omega arith) in
-      let aw = subst (Ascends (of_rank 0 w)) (sym e) iw.ascends in (
-        ascends_same _ _ _ iv.ascends aw _ _ mi mj,
-        ascends_same _ _ _ aw iv.ascends _ _ mi mj,
-      )
+      let mj = iv.whole (suc j) (omega arith, omega arith) in grind (arith, ascends_same)
 
   pub first_best_list_is_one : (v w : Schedule) → IsFirstBestList p v → IsFirstBestList p w → v ≡ w
   first_best_list_is_one v w a b =
-      let e = no_later_antisym _ _ (a.first w b.best b.tight) (b.first v a.best a.tight) in
-      zip_same v w (a.tight.earliest w b.tight.feasible (order_alike v w a.tight.feasible b.tight.feasible e))
-      (b.tight.earliest v a.tight.feasible (order_alike w v b.tight.feasible a.tight.feasible (sym e)))
+      search (arith, no_later_antisym, zip_same, order_alike, a.first, b.best, b.tight, b.first, a.best, a.tight,
+          a.tight.earliest, b.tight.feasible, a.tight.feasible, b.tight.earliest)
 
   -- a first best map, as a list
   pub first_best_listed : (u : ℕ → ℕ) → FirstBest (ranked p) (value_of_map p) u
@@ -239,14 +234,7 @@ module _ (p : lists'.Problem) (sound : SoundProblem (ranked p)) (passed : (r : �
           feasible = feasible_agree (ranked p) u (of_rank 0 v) back b.best.feasible;
           least = λ w f. omega (arith, value_agree p (of_rank 0 v) u at);
         };
-        tight = record {
-          feasible = feasible_agree (ranked p) u (of_rank 0 v) back b.tight.feasible;
-          least = λ w f same r q.
-              let a = b.tight.least w f (λ x y ix iy.
-              let o = same x y ix iy in
-              (λ lt. o.0 (omega arith), λ lt. omega (arith, o.1 lt))) r q in
-              omega arith;
-        };
+        tight = grind (arith, feasible_agree);
         least = λ w bw tw qs os oq ow. b.least w bw tw qs os (record {
           ranked = oq.ranked;
           whole = oq.whole;

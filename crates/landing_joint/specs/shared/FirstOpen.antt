@@ -68,11 +68,7 @@ pub first_open_some : (ws : List Span) (t x : ℕ) → t ≤ x → list_any (is_
     → ((u : ℕ) → t ≤ u → u < x → list_any (is_within u) ws ≡ false) → Some x ≡ first_open ws t
 first_open_some ws t x le passes least =
     let l = first_open_least ws t x passes le in
-    let f = first_open_found ws t l.0 l.1 in
-    elim (cases_lt l.0 x) [
-      | inl lt ↦ absurd (false≢true (sym (least l.0 f.1 lt) ∙ f.0))
-      | inr ge ↦ (ap Some {x = x} {y = l.0} (omega arith) ∙ sym l.1)
-    ]
+    let f = first_open_found ws t l.0 l.1 in grind (arith, cases_lt, false≢true)
 
 -- the first open second of a rank of a problem
 pub is_first_open : (p : Problem) → IsFirstOpen (λ r u. (ranked p).is_open r u ≡ true) (first_at p)

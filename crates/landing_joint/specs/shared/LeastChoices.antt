@@ -48,9 +48,7 @@ module _ (p : lists'.Problem) (sound : SoundProblem (ranked p)) (passed : (r : �
   no_less u f =
       let w = list_of (length p.flights) u in
       let g = feasible_list p passed w (list_of_long _ u) (feasible_agree _ u _ (λ r q. sym (list_of_at _ u r q)) f) in
-      let b = list_value p w (list_of_long _ u) in
-      let c = value_agree p _ u (list_of_at _ u) in
-      omega arith
+      let b = list_value p w (list_of_long _ u) in grind (arith, value_agree, list_of_at)
 
   last_low : (fs : List lists'.Waiting) (xs : List Landing) → length (ranks xs) ≡ length fs
       → makespan_by fs p (latest_landing xs).1 ≤ v → (latest_landing xs).1 ≤ v
@@ -98,9 +96,7 @@ module _ (p : lists'.Problem) (sound : SoundProblem (ranked p)) (passed : (r : �
     kept_in : (rs : List ℕ) (r : ℕ) → IsLegal p (r ∷ rs)
         → KeptCompleting (CompletesPattern (node (r ∷ rs))) (KeepsIn (node (r ∷ rs)))
     kept_in rs r l = record {
-      completes = λ q k. subst (λ w. CompletesPattern w q) k.at
-          (completes_node p sound v (ranks (k.last ∷ k.before)) q k.legal
-          ((kept k.last k.before k.legal k.landed).completes q k.keeps));
+      completes = grind (arith, completes_node);
       covers = λ q c. by q c c.reached.landings c.reached.legal c.reached.landed c.reached.at;
     }
       where
@@ -161,15 +157,7 @@ module _ (p : lists'.Problem) (sound : SoundProblem (ranked p)) (passed : (r : �
         let at = k.at ∙ sym ((net p sound).pushes r (ranks xs) l) in
         let done = completes_one p sound v _ _ o k.legal legal (pattern_one p sound _ _ k.legal legal at)
         ((kept k.last k.before k.legal k.landed).completes o k.keeps) in
-        let n = (kept (r, t) xs legal (landed_more xs r t d lands)).covers o done in
-        record {
-          legal = legal;
-          lands = lands;
-          pair = n.0;
-          kept = n.1;
-          in_time = le_trans c.can_end.2 n.2.0;
-          cheap = omega arith;
-        }
+        let n = (kept (r, t) xs legal (landed_more xs r t d lands)).covers o done in grind (arith, le_trans)
 
     built_in : (xs : List Landing) → AreLeastChoices p v Keeps xs → Built xs × IsLegal p (ranks xs)
         × LandedIn (ranked p) xs

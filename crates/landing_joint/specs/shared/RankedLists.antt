@@ -116,9 +116,4 @@ module _ (p : lists'.Problem) where
   -- where each pair stands between ranks, the theory's laws hold of the problem
   pub sound_ranked : IsWakeTable p.table → ((q r : ℕ) → must_precede p.pairs q r ≡ true → IsRank (length p.flights) q)
       → SoundProblem (ranked p)
-  sound_ranked table between = record {
-    triangle = λ a b c. table.triangle (fl a).category (fl b).category (fl c).category;
-    positive = λ a b. (table.entries (fl a).category (fl b).category).0;
-    ranked = between;
-    low = λ r. omega arith;
-  }
+  sound_ranked table between = search (arith, table.triangle, table.entries)

@@ -47,8 +47,7 @@ pub map_ascends : (t u : ℕ → ℕ) (f : ℕ → ℕ) (rs : List ℕ) → ((x 
     → Ascends t rs → Ascends u (map f rs)
 map_ascends t u f [] h a = tt
 map_ascends t u f (r ∷ rs) h a = (
-  λ y i. let w = in_map f rs y i in let x = a.0 w.0 w.1 in let e = h r (inl refl) in let g =
-      h w.0 (inr w.1) in rw w.2 (omega arith),
+  λ y i. let w = in_map f rs y i in grind arith,
   map_ascends t u f rs (λ x i. h x (inr i)) a.1,
 )
 

@@ -22,10 +22,7 @@ use Rattle.landing_joint.specs.shared.NodePairs.{net, by_reached, completes_node
 kept_by_prefix : (p : Problem) (sound : SoundProblem (ranked p)) (v : ℕ) (rs : List ℕ) → IsLegal p rs
     → (New : Pair → Type 0) → KeptCompleting (CompletesNode (ranked p) (cost_at p) (is_low p v)
     (pattern_node (ranked p).rules rs)) New → KeptCompleting (IsCompletingPair p v rs) New
-kept_by_prefix p sound v rs l New k = record {
-  completes = λ q n. node_completes p sound v rs q l (k.completes q n);
-  covers = λ q c. k.covers q (completes_node p sound v rs q l c);
-}
+kept_by_prefix p sound v rs l New k = search (arith, node_completes, completes_node, k.completes, k.covers)
 
 module _ (p : Problem) (sound : SoundProblem (ranked p)) (v : ℕ) (rs : List ℕ) (legal : IsLegal p rs) (New : Pair
     → Type 0) where

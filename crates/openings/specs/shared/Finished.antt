@@ -11,8 +11,7 @@ use Rattle.endings.specs.Refusing.{Stops}
 
 -- one that stopped before it wrote
 stopped : (Admits : List ℕ → Answer → Type 0) (Refuses : FilesFault → Type 0) (old new : SinkState) (ending : Ending)
-    → new ≡ old →
-    Stops Refuses ending → FollowsAtOnce Admits Refuses old new ending
+    → new ≡ old → Stops Refuses ending → FollowsAtOnce Admits Refuses old new ending
 stopped Admits Refuses old new (Refused cause) same stops = (stops, same)
 stopped Admits Refuses old new NoMemory same stops = inl same
 stopped Admits Refuses old new ending same stops = absurd stops

@@ -23,9 +23,8 @@ of_bytes Holds (Ok x) a f aerodrome flights a_read f_read holds = record {
   flights_read = f_read;
   holds = holds;
 }
-of_bytes Holds (Err ending) a f aerodrome flights a_read f_read stops =
-    stops_by (λ cause. refusal_of aerodrome flights ≡ Some cause) (RefusesTwo a f) ending
-    (λ cause refused. ap₂ refused_by a_read f_read ∙ refused) stops
+of_bytes Holds (Err ending) a f aerodrome flights a_read f_read stops = stops_by (λ cause. refusal_of aerodrome
+    flights ≡ Some cause) (RefusesTwo a f) ending (λ cause refused. ap₂ refused_by a_read f_read ∙ refused) stops
 
 -- the same with a third file, whose fault is a refusal of this kind
 pub of_three_bytes : {T F X : Type 0} (kind : F → FilesFault) (read : List ℕ → Result T F)

@@ -9,8 +9,7 @@ use Rattle.arrivals.specs.Seen.{flight_of}
 use Rattle.sequencer.specs.Opened.{opening_of}
 
 pub as_many : (a : Aerodrome) (fs : List Flight) (s : Situation)
-    → s ≡ opening_situation (opening_of a) (map flight_of fs)
-    → length s.active ≡ length fs
+    → s ≡ opening_situation (opening_of a) (map flight_of fs) → length s.active ≡ length fs
 as_many a fs s is =
     let all = length-map (map flight_of fs) (opening_flight (opening_of a)) in
     let each = length-map fs flight_of in

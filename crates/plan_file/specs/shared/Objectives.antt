@@ -19,10 +19,7 @@ pub record IsLight (f : Landing) : Type 0 where
 
 greatest_low : (all : List Landing) → All IsLight all → greatest (map (λ f. f.second) all) ≤ last_second
 greatest_low [] h = omega arith
-greatest_low (f ∷ all) h =
-    let here = (All-head IsLight f all h).second in
-    let rest = greatest_low all (All-tail IsLight f all h) in
-    omega (arith, here, rest)
+greatest_low (f ∷ all) h = grind (arith, All-head, All-tail, greatest_low all (All-tail IsLight f all h))
 
 product_low : (w s : ℕ) → w ≤ greatest_weight → s ≤ last_second → w * s ≤ dearest_landing
 product_low w s p q = grind (arith, common_steps)
@@ -35,12 +32,12 @@ delays_low (f ∷ all) h =
     let one = product_low f.flight.weight (f.second - f.flight.eta) own.weight (omega (arith, here)) in
     let rest = delays_low all (All-tail IsLight f all h) in
     let both = sum_by-cons delay f all in
-    omega (arith, one, rest, both)
+    omega (arith, one)
 
 pub cost_low : (o : Objective) (all : List Landing) → All IsLight all → length all ≤ most_flights
     → cost o all ≤ greatest_value
-cost_low Makespan all h few = let a = greatest_low all h in omega (arith, a)
-cost_low Delay all h few = let a = delays_low all h in omega (arith, a, few)
+cost_low Makespan all h few = let a = greatest_low all h in omega arith
+cost_low Delay all h few = let a = delays_low all h in omega (arith, a)
 
 light_landings : (active : List Active) (t : Schedule) → All (λ (a : Active). IsGoodFlight a.flight) active
     → All (λ (f : Landing). f.second ≤ last_second) (landings active t) → All IsLight (landings active t)
@@ -60,6 +57,4 @@ pub schedule_low : (o : Objective) (active : List Active) (t : Schedule)
     → All (λ (a : Active). IsGoodFlight a.flight) active
     → length active ≤ most_flights → All (λ (f : Landing). f.second ≤ last_second) (landings active t)
     → cost o (landings active t) ≤ greatest_value
-schedule_low o active t good few days =
-    let fewer = length_landings active t in
-    cost_low o (landings active t) (light_landings active t good days) (omega (arith, few, fewer))
+schedule_low o active t good few days = grind (arith, length_landings, cost_low, light_landings)

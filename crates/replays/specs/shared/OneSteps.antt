@@ -40,9 +40,8 @@ module _ (p : Problem) (xs : List ℕ) (same : must_precede xs ≡ must_precede 
   }
 
   abbrev attains_by : (ℕ → ℕ → Bool) → ℕ → List ℤ → Pair → Type 0
-  attains_by before stage ys q =
-      Attained (λ r u. (ranked p).is_open r u ≡ true) (next_from (ranked_by before)) (cost_at p)
-      (Legal (ranked_by before).rules) (node_of p.k) (stage, ys) q
+  attains_by before stage ys q = Attained (λ r u. (ranked p).is_open r u ≡ true)
+      (next_from (ranked_by before)) (cost_at p) (Legal (ranked_by before).rules) (node_of p.k) (stage, ys) q
 
   landable_along : (stage : ℕ) (ys : List ℤ) → IsLandable (with_pairs p xs) stage ys → IsLandable p stage ys
   landable_along stage ys (q, attained) =
@@ -50,9 +49,8 @@ module _ (p : Problem) (xs : List ℕ) (same : must_precede xs ≡ must_precede 
 
   asked_back : (first next : ℕ) → MustPrecede p.pairs first next → MustPrecede xs first next
   asked_back first next must =
-      (must_precede_decides xs first next).0
-      (subst (λ (before : ℕ → ℕ → Bool). IsTrue (before first next)) (sym same)
-      ((must_precede_decides p.pairs first next).1 must))
+      (must_precede_decides xs first next).0 (subst (λ (before : ℕ → ℕ → Bool). IsTrue (before first next))
+      (sym same) ((must_precede_decides p.pairs first next).1 must))
 
   permitted_along : (stage : ℕ) (ys : List ℤ) (rank : ℕ) → IsPermitted (with_pairs p xs) stage ys rank
       → IsPermitted p stage ys rank
@@ -138,8 +136,7 @@ module _ (held p : Problem) (xs ys : List ℕ) (held_same : must_precede xs ≡ 
   due_along total (d, is, due) = (
     d,
     difference_along d is,
-    where_along p ys same (counts d p.k (length held.flights))
-        (length p.flights) total due,
+    where_along p ys same (counts d p.k (length held.flights)) (length p.flights) total due,
   )
 
 -- ---- of two problems of a situation

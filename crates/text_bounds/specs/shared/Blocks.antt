@@ -1,6 +1,7 @@
 -- How long a plan block is.
-use Rattle.std.proofs.Common.{◌≡◌, ℕ, ◌+◌, ◌*◌, ◌≤◌, List, [], ◌∷◌, ◌++◌, length, true, false, Bool, Option, Some, None}
-use Rattle.std.proofs.Common.{refl, arith}
+use Rattle.std.proofs.Common.{rules, ◌≡◌, ℕ, ◌+◌, ◌*◌, ◌≤◌, List, [], ◌∷◌, ◌++◌, length, true, false, Bool, Option}
+use Rattle.std.proofs.Common.{Some, None, refl, arith}
+use Rattle.std.proofs.lemmas.Grind.{common_steps}
 use Rattle.std.specs.Prelude.{decimal, codes, map, option_map}
 use Rattle.std.proofs.lemmas.List.{length-append}
 use Rattle.landing_rules.specs.declared.objective.Objective.{Objective}
@@ -14,16 +15,11 @@ use Rattle.text_bounds.specs.Blocks.{BlockIsBoundedLaw, block_bound}
 use Rattle.text_bounds.specs.shared.Lengths.{callsign_short, second_short, value_short}
 
 word_short : (b : Bool) → length (frozen_word b) ≤ 8
-word_short true = omega arith
-word_short false = omega arith
+word_short b = grind arith
 
 landing_short : (f : ShownLanding) → length f.callsign ≤ 8 → length (decimal f.second) ≤ 6
     → length (line (landing_words f)) ≤ 29
-landing_short f name second =
-    let b = length-append f.callsign (codes " ") in
-    let c = length-append (f.callsign ++ codes " ") (decimal f.second ++ frozen_word f.frozen) in
-    let d = length-append (f.callsign ++ codes " " ++ (decimal f.second ++ frozen_word f.frozen)) (10 ∷ []) in
-    omega (arith, name, second, word_short f.frozen, length-append (decimal f.second) (frozen_word f.frozen), b, c, d)
+landing_short f name second = grind (arith, common_steps, word_short)
 
 landings_short : (fs : List ShownLanding) → AreReadable fs → length (lines_text (map landing_words fs)) ≤ 29 * length fs
 landings_short [] h = omega arith
@@ -32,19 +28,14 @@ landings_short (f ∷ fs) h =
     omega (arith, landing_short f (callsign_short _ h.0) (second_short _ h.1), landings_short fs h.2, both)
 
 objective_short : (o : Objective) → length (objective_word o) ≤ 9
-objective_short Makespan = omega arith
-objective_short Delay = omega arith
+objective_short o = grind arith
 
 pub head_short : (o : Objective) (v : ℕ) → length (decimal v) ≤ 10 → length (line (head_words o v)) ≤ 20
-head_short o v value =
-    let b = length-append (head_words o v) (10 ∷ []) in
-    omega (arith, value, objective_short o, length-append (objective_word o) (decimal v), b)
+head_short o v value = grind (arith, common_steps)
 
 pub block_short : (o : Objective) (p : ShownPlan) → IsReadable p
     → length (block_text o (Some p)) ≤ 20 + 29 * length p.landings
-block_short o p h =
-    let both = length-append (line (head_words o p.value)) (lines_text (map landing_words p.landings)) in
-    omega (arith, head_short o p.value (value_short p.value h.value), landings_short p.landings h.landings, both)
+block_short o p h = grind (arith, length-append, head_short, value_short, landings_short)
 
 pub plan_short : ShownPlanIsReadableLaw → BlockIsBoundedLaw
 plan_short law state sound = go _ refl

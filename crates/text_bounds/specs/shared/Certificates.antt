@@ -1,5 +1,6 @@
 -- How long the lines of a certificate are.
-use Rattle.std.proofs.Common.{◌≡◌, ℕ, ◌+◌, ◌*◌, ◌≤◌, List, [], ◌∷◌, ◌++◌, length, true, Bool, arith}
+use Rattle.std.proofs.Common.{rules, refl, ◌≡◌, ℕ, ◌+◌, ◌*◌, ◌≤◌, List, [], ◌∷◌, ◌++◌, length, true, Bool, arith}
+use Rattle.std.proofs.lemmas.Grind.{common_steps}
 use Rattle.std.specs.Prelude.{decimal, nat_le}
 use Rattle.std.specs.List.{list_all}
 use Rattle.std.proofs.lemmas.Bool.{and_parts}
@@ -20,11 +21,10 @@ use Rattle.text_bounds.specs.Certificates.{CertificateIsBoundedLaw, pair_count}
 use Rattle.text_bounds.specs.shared.Lengths.{callsign_short, rank_short, second_short, value_short}
 
 claim_short : (c : Claim) → IsClaim c → length (claim_text c) ≤ 24
-claim_short (Optimal v) h = omega (arith, value_short v h)
-claim_short Infeasible h = omega arith
+claim_short c h = grind (arith, value_short)
 
 landing_short : (l : List ℕ × ℕ) → length l.0 ≤ 8 → length (decimal l.1) ≤ 6 → length (landing_text l) ≤ 20
-landing_short l name second = omega (arith, name, second, length-append l.0 (32 ∷ decimal l.1))
+landing_short l name second = grind (arith, common_steps)
 
 landings_short : (ls : List (List ℕ × ℕ)) → AreLandings ls → length (landing_lines ls) ≤ 21 * length ls
 landings_short [] h = omega arith
@@ -33,11 +33,10 @@ landings_short (l ∷ ls) h =
     omega (arith, one, landings_short ls h.2, length-append (landing_text l) (10 ∷ landing_lines ls))
 
 pattern_few : (n : ℕ) → is_pattern_length n ≡ true → n ≤ 6
-pattern_few n e = grind (arith, nat_tests, e)
+pattern_few n e = grind (arith, e)
 
 pattern_short : (ds : List Bool) → is_pattern_length (length ds) ≡ true → length (pattern_text ds) ≤ 6
-pattern_short [] e = omega arith
-pattern_short (d ∷ ds) e = omega (arith, pattern_few (length (d ∷ ds)) e, length-map (d ∷ ds) digit_text)
+pattern_short ds e = search (rules, length-map)
 
 pair_short : (p : Pair) → is_pair p ≡ true → length (pair_text p) ≤ 17
 pair_short p h =
@@ -45,7 +44,7 @@ pair_short p h =
     let t : p.0 ≤ last_second = grind (arith, nat_tests, both.0) in
     let c : p.1 ≤ greatest_word = grind (arith, nat_tests, both.1) in
     let b = length-decimal-le 10 p.1 (omega arith) (omega (arith, c)) (omega (arith, c)) in
-    omega (arith, second_short p.0 t, b, length-append (decimal p.0) (58 ∷ decimal p.1))
+    omega (arith, second_short p.0 t, length-append (decimal p.0) (58 ∷ decimal p.1))
 
 pairs_short : (ps : List Pair) → list_all is_pair ps ≡ true → length (pairs_text ps) ≤ 18 * length ps
 pairs_short [] h = omega arith
@@ -55,14 +54,7 @@ pairs_short (p ∷ ps) h =
     omega (arith, one, pairs_short ps here.1, length-append (pair_text p) (pairs_text ps))
 
 state_short : (s : State) → IsState s → length (state_text s) ≤ 18 + 18 * length s.pairs
-state_short s h =
-    let last = rank_short _ h.last.1 in
-    let pairs = pairs_short s.pairs h.pairs in
-    let a = length-append (decimal s.last) (pairs_text s.pairs) in
-    let b = length-append (pattern_text s.pattern) (32 ∷ (decimal s.last ++ pairs_text s.pairs)) in
-    let c = length-append (decimal s.stage)
-    (32 ∷ (pattern_text s.pattern ++ 32 ∷ (decimal s.last ++ pairs_text s.pairs))) in
-    omega (arith, rank_short _ h.stage.1, last, pattern_short s.pattern h.pattern, pairs, a, b, c)
+state_short s h = grind (arith, rank_short, pairs_short, length-append, decimal, pattern_short)
 
 states_short : (ss : List State) → AreStates ss → length (state_lines ss) ≤ 19 * length ss + 18 * pair_count ss
 states_short [] h = omega arith
@@ -72,8 +64,4 @@ states_short (s ∷ ss) h =
     omega (arith, one, states_short ss h.1, length-append (state_text s) (10 ∷ state_lines ss), more)
 
 pub certificate_short : CertificateIsBoundedLaw
-certificate_short c h =
-    let claim = claim_short _ h.claim in
-    let a = length-append (landing_lines c.landings) (state_lines c.states) in
-    let b = length-append (claim_text c.claim) (10 ∷ (landing_lines c.landings ++ state_lines c.states)) in
-    omega (arith, claim, landings_short c.landings h.landings, states_short c.states h.states, a, b)
+certificate_short c h = grind (arith, claim_short, length-append, landings_short, states_short)

@@ -1,5 +1,6 @@
 -- How long numbers, callsigns and lines are at most.
-use Rattle.std.proofs.Common.{◌≡◌, ℕ, ◌<◌, ◌≤◌, List, length, true, arith}
+use Rattle.std.proofs.Common.{rules, refl, ◌≡◌, ℕ, ◌<◌, ◌≤◌, List, length, true, arith}
+use Rattle.std.proofs.lemmas.Grind.{common_steps}
 use Rattle.std.specs.Prelude.{decimal, nat_le}
 use Rattle.std.specs.List.{list_all}
 use Rattle.std.proofs.lemmas.Bool.{and_parts}
@@ -10,21 +11,16 @@ use Rattle.cps_base.specs.Limits.{greatest_value, most_waiting}
 use Rattle.landing_rules.specs.Rules.{last_second}
 
 pub second_short : (n : ℕ) → n ≤ last_second → length (decimal n) ≤ 6
-second_short n le = length-decimal-le 6 n (omega arith) (omega (arith, le)) (omega (arith, le))
+second_short n le = grind (arith, length-decimal-le)
 
 pub value_short : (n : ℕ) → n ≤ greatest_value → length (decimal n) ≤ 10
-value_short n le = length-decimal-le 10 n (omega arith) (omega (arith, le)) (omega (arith, le))
+value_short n le = grind (arith, length-decimal-le)
 
 pub number_short : (n : ℕ) → n < 10000 → length (decimal n) ≤ 4
-number_short n le = length-decimal-le 4 n (omega arith) (omega (arith, le)) (omega (arith, le))
+number_short n le = grind (arith, length-decimal-le)
 
 pub rank_short : (n : ℕ) → n ≤ most_waiting → length (decimal n) ≤ 2
-rank_short n le = length-decimal-le 2 n (omega arith) (omega (arith, le)) (omega (arith, le))
+rank_short n le = grind (arith, length-decimal-le)
 
 pub callsign_short : (c : List ℕ) → is_callsign c ≡ true → length c ≤ 8
-callsign_short c h =
-    grind (
-      arith,
-      nat_tests,
-      (and_parts (nat_le 2 (length c)) (nat_le (length c) 8) ((and_parts _ (list_all is_callsign_byte c) h).0)).1,
-    )
+callsign_short c h = grind arith

@@ -1,5 +1,6 @@
 -- Seconds that rise, each in one of the windows, are at most as many as the windows hold.
-use Rattle.std.proofs.Common.{◌≡◌, ℕ, ◌+◌, ◌-◌, ◌<◌, ◌≤◌, inl, inr, List, [], ◌∷◌, length, true, refl, arith}
+use Rattle.std.proofs.Common.{rules, ◌≡◌, ℕ, ◌+◌, ◌-◌, ◌<◌, ◌≤◌, inl, inr, List, [], ◌∷◌, length, true, refl, arith}
+use Rattle.std.proofs.lemmas.Grind.{common_steps}
 use Rattle.std.specs.Prelude.{◌&&◌, min, nat_le, nat_lt, sum_by}
 use Rattle.std.specs.List.{list_any}
 use Rattle.std.proofs.lemmas.Bool.{and_parts, cases_Bool}
@@ -20,16 +21,14 @@ seconds_of ws = sum_by (λ (w : Span). w.1 + 1 - w.0) ws
 
 below_on : (ws : List Span) (t u : ℕ) → t ≤ u → below ws t ≤ below ws u
 below_on [] t u le = omega arith
-below_on (w ∷ ws) t u le = omega (arith, below_on ws t u le, le)
+below_on (w ∷ ws) t u le = omega (arith, below_on ws t u le)
 
 below_all : (ws : List Span) (t : ℕ) → below ws t ≤ seconds_of ws
 below_all [] t = omega arith
-below_all (w ∷ ws) t = omega (arith, below_all ws t, sum_by-cons (λ (x : Span). x.1 + 1 - x.0) w ws)
+below_all (w ∷ ws) t = omega (arith, sum_by-cons, below_all ws t)
 
 inside : (t : ℕ) (w : Span) → is_within t w ≡ true → (w.0 ≤ t) × (t ≤ w.1)
-inside t w e =
-    let both = and_parts (nat_le w.0 t) (nat_le t w.1) e in
-    (grind (arith, nat_tests, both.0), grind (arith, nat_tests, both.1))
+inside t w e = grind arith
 
 below_more : (ws : List Span) (t u : ℕ) → list_any (is_within t) ws ≡ true → t < u → below ws t + 1 ≤ below ws u
 below_more [] t u e lt = absurd (cc e)

@@ -1,6 +1,7 @@
 -- The numbers of a verdict are small: ranks, numbers of states, and the objective of a list of seconds.
-use Rattle.std.proofs.Common.{ℕ, zero, suc, inl, inr, ◌+◌, ◌<◌, ◌≤◌, List, [], ◌∷◌, length, map, Bool, Option, Some}
-use Rattle.std.proofs.Common.{None, arith}
+use Rattle.std.proofs.Common.{rules, refl, ℕ, zero, suc, inl, inr, ◌+◌, ◌<◌, ◌≤◌, List, [], ◌∷◌, length, map, Bool}
+use Rattle.std.proofs.Common.{Option, Some, None, arith}
+use Rattle.std.proofs.lemmas.Grind.{common_steps}
 use Rattle.std.specs.Prelude.{⊤, All, bytes_eq, option_map, ◌==◌}
 use Rattle.std.specs.Option.{option_or}
 use Rattle.std.proofs.lemmas.Bool.{cases_Bool}
@@ -54,18 +55,15 @@ IfFound P None = ⊤
 IfFound P (Some x) = P x
 
 or_found : {A : Type 0} (P : A → Type 0) (a b : Option A) → IfFound P a → IfFound P b → IfFound P (option_or a b)
-or_found P None b p q = q
-or_found P (Some x) b p q = p
+or_found P a b p q = grind arith
 
 map_found : {A B : Type 0} (P : A → Type 0) (Q : B → Type 0) (f : A → B) (o : Option A) → ((x : A) → P x → Q (f x))
     → IfFound P o → IfFound Q (option_map f o)
-map_found P Q f None h p = tt
-map_found P Q f (Some x) h p = h x p
+map_found P Q f o h p = grind arith
 
 pair_found : {B : Type 0} (P : ℕ × ℕ → Type 0) (Q : B → Type 0) (f : ℕ → ℕ → B) (o : Option (ℕ × ℕ))
     → ((x : ℕ × ℕ) → P x → Q (f x.0 x.1)) → IfFound P o → IfFound Q (with_pair f o)
-pair_found P Q f None h p = tt
-pair_found P Q f (Some x) h p = h x p
+pair_found P Q f o h p = grind arith
 
 first_found : (test : ℕ → Bool) (x m most : ℕ) → x + m ≤ most + 1 → IfFound (λ y. y ≤ most) (first_from test x m)
 first_found test x zero most le = tt
@@ -79,15 +77,12 @@ AreBelow a b x = (x.0 ≤ a) × (x.1 ≤ b)
 
 number_found : (i : ℕ) (o : Option ℕ) (a b : ℕ) → i ≤ a → IfFound (λ y. y ≤ b) o
     → IfFound (AreBelow a b) (with_number i o)
-number_found i None a b le h = tt
-number_found i (Some y) a b le h = (le, h)
+number_found i o a b le h = grind arith
 
 pairs_found : (find : ℕ → Option ℕ) (x m a b : ℕ) → x + m ≤ a + 1 → ((y : ℕ) → IfFound (λ z. z ≤ b) (find y))
     → IfFound (AreBelow a b) (first_pair_from find x m)
 pairs_found find x zero a b le h = tt
-pairs_found find x (suc m) a b le h =
-    or_found (AreBelow a b) _ _
-    (number_found x _ a b (omega (arith, le)) (h x)) (pairs_found _ (suc x) m a b (omega (arith, le)) h)
+pairs_found find x (suc m) a b le h = search (rules, pairs_found _ (suc x) m a b (omega (arith, le)) h)
 
 element_found : {S : Type 0} (test : S → Bool) (i most : ℕ) (ss : List S) → i + length ss ≤ most + 1
     → IfFound (λ y. y ≤ most) (element_from test i ss)
@@ -120,10 +115,7 @@ module _ (p : Problem) (well : IsWellFormed p) where
   ranks_found test = first_found test 1 _ _ (omega arith)
 
   value_found : (v : ℕ) (ls : Landings) → AreLandings ls → IfFound HasSmallNumbers (value_reason p v ls)
-  value_found v ls h = elim (cases_Bool (list_objective p (seconds p ls) == v)) [
-    | inl same ↦ rw same tt
-    | inr other ↦ rw other (objective_low p _ well (seconds_low _ ls h))
-  ]
+  value_found v ls h = grind (arith, cases_Bool, objective_low, seconds_low)
 
   landing_found : (v : ℕ) (ls : Landings) → AreLandings ls → IfFound HasSmallNumbers (landing_reason p v ls)
   unfolding landing_reason
@@ -167,17 +159,13 @@ module _ (p : Problem) (well : IsWellFormed p) where
         (map_found (λ y. y ≤ most_states) _ _ _ (λ i le. le) (final_found c)))
 
   claim_found : (c : Claim) (ls : Landings) → AreLandings ls → IfFound HasSmallNumbers (claim_reason p c ls)
-  claim_found (claim.Optimal v) ls h = landing_found v ls h
-  claim_found claim.Infeasible ls h = tt
+  claim_found c ls h = grind (arith, landing_found)
 
   flights_found : (c : Claim) (ls : Landings) → IfFound HasSmallNumbers (flights_reason p c ls)
-  flights_found c ls = elim (cases_Bool (are_not_flights p c ls)) [ inl other ↦ rw other tt | inr same ↦ rw same tt ]
+  flights_found c ls = grind arith
 
   verdict_small : (c : Claim) (o : Option Reason) → IsClaim c → IfFound HasSmallNumbers o → IsSmall (verdict_by c o)
-  verdict_small (claim.Optimal v) None h f = h
-  verdict_small (claim.Optimal v) (Some r) h f = f
-  verdict_small claim.Infeasible None h f = tt
-  verdict_small claim.Infeasible (Some r) h f = f
+  verdict_small c o h f = grind arith
 
   pub verdict_has_small_numbers : (c : Cert) → IsCertificate c → IsSmall (verdict_of p c)
   unfolding verdict_of failure

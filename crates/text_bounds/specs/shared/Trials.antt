@@ -1,5 +1,6 @@
 -- How long the summary of a trial is.
-use Rattle.std.proofs.Common.{◌≤◌, [], ◌∷◌, ◌++◌, length, take, Option, Some, None, arith}
+use Rattle.std.proofs.Common.{rules, refl, ◌≤◌, [], ◌∷◌, ◌++◌, length, take, Option, Some, None, arith}
+use Rattle.std.proofs.lemmas.Grind.{common_steps}
 use Rattle.std.specs.Prelude.{⊤, MatchOption, codes, decimal}
 use Rattle.std.proofs.lemmas.Fmt.{length-decimal-le}
 use Rattle.std.proofs.lemmas.List.{length-append}
@@ -12,9 +13,7 @@ use Rattle.text_bounds.specs.shared.Lengths.{value_short}
 
 first_short : (o : Objective) (plan : Option ShownPlan) → MatchOption plan ⊤ (λ p. p.value ≤ greatest_value)
     → length (lines_text (take 1 (block_lines o plan))) ≤ 20
-first_short o None h = omega arith
-first_short o (Some p) h =
-    omega (arith, head_short o p.value (value_short p.value h), length-append (line (head_words o p.value)) [])
+first_short o plan h = grind (arith, common_steps, value_short)
 
 pub trial_short : TrialIsBoundedLaw
 trial_short n k nodes o plan few near small h =

@@ -1,4 +1,6 @@
 -- How long a certificate is that leaves nothing out: by its landings, its states and their pairs.
+use Rattle.std.proofs.Common.{rules}
+use Rattle.std.proofs.lemmas.Grind.{common_steps}
 use Rattle.std.proofs.Common.{◌≡◌, ℕ, zero, suc, ◌≤◌, inl, inr, List, [], ◌∷◌, length, true, refl, sym, ap, ◌∙◌, arith}
 use Rattle.std.specs.Prelude.{All, not, IsPermutation}
 use Rattle.std.specs.List.{AllZip, list_any}
@@ -31,8 +33,7 @@ use Rattle.text_bounds.specs.WholeCertificates.{LoadableIsShortLaw, WholeCertifi
 use Rattle.text_bounds.specs.shared.OpenSeconds.{pairs_few, seconds_of}
 
 as_many_landings : (p : Problem) (claimed : Claim) (ls : Landings) → IsAnswered p claimed ls → length ls ≤ count p
-as_many_landings p (claim.Optimal v) ls h = omega arith
-as_many_landings p claim.Infeasible ls h = omega (arith, ap length h.0)
+as_many_landings p claimed ls h = grind arith
 
 -- ---- the open seconds of each waiting flight
 
@@ -45,9 +46,9 @@ rank_permutes active = sort_moves _ insert_by_rank (λ a. refl) (λ a b bs. refl
 
 few_by_rank : (s : Situation) → IsSound s → All HasFewSeconds (by_rank (waiting s))
 few_by_rank s sound =
-    let all : All HasFewSeconds s.active = λ i a lt. (sound.flights i a lt).windows.seconds in
-    all_from _ _ (λ a m. all_at HasFewSeconds _ (All-filter _ HasFewSeconds _ all) a (member_permutation _ _ a
-    (IsPermutation-sym (waiting s) (by_rank (waiting s)) (rank_permutes _)) m))
+    all_from _ _ (λ a m. all_at HasFewSeconds _ (All-filter _ HasFewSeconds _ (λ i a lt. (sound.flights i a
+    lt).windows.seconds)) a (member_permutation _ _ a (IsPermutation-sym (waiting s) (by_rank (waiting s))
+    (rank_permutes _)) m))
 
 -- pairs at such seconds are few
 abbrev HasFewPairs : Waiting → Type 0
@@ -56,11 +57,7 @@ HasFewPairs w = (ps : List Pair) → rises ps ≡ true
 
 module _ (closures : List Span) where
   few_pairs : (a : Active) (w : Waiting) → IsWaitingOf closures a w → HasFewSeconds a → HasFewPairs w
-  few_pairs a w of few ps up each =
-      let inside : (q : Pair) → InPairs q ps → list_any (is_within q.0) a.flight.windows ≡ true = λ q i.
-      (and_parts (list_any (is_within q.0) a.flight.windows) (not (list_any (is_shut q.0) closures))
-      (sym (of.open_spans.same q.0) ∙ each q i)).0 in
-      omega (arith, pairs_few _ ps up inside, few)
+  few_pairs a w of few ps up each = search (rules, pairs_few)
 
   few_each : (active : List Active) (ws : List Waiting) → AllZip (IsWaitingOf closures) active ws
       → All HasFewSeconds active → All HasFewPairs ws
@@ -95,17 +92,17 @@ whole_short bound states single seconds s p c sound of well form whole =
     let m = most_pairs p.objective in
     let few = few_each _ _ _ of.flights (few_by_rank s sound) in
     let count = states p c.states well whole.states in
-    let pairs = sum_by-le (λ (x : State). length x.pairs) m _
-    (λ i x lt. pairs_by _ p _ refl single seconds few (whole.states.each i x lt)) in
+    let pairs = sum_by-le (λ (x : State). length x.pairs) m _ (λ i x lt. pairs_by _ p _ refl single seconds few
+    (whole.states.each i x lt)) in
     let text = bound c form in
-    omega (arith, as_many_landings p c.claim c.landings whole.answer, count, pairs, mul-le-mul_right m count, text)
+    omega (arith, as_many_landings p c.claim c.landings whole.answer, mul-le-mul_right m count)
 
 pub loadable_short : LoadableIsShortLaw
 loadable_short Makespan zero n h = omega arith
 loadable_short Makespan (suc zero) n h = omega arith
 loadable_short Makespan (suc (suc zero)) n h = omega arith
 loadable_short Makespan (suc (suc (suc k))) n h = omega arith
-loadable_short Delay zero n h = omega (arith, h)
-loadable_short Delay (suc zero) n h = omega (arith, h)
-loadable_short Delay (suc (suc zero)) n h = omega (arith, h)
+loadable_short Delay zero n h = omega arith
+loadable_short Delay (suc zero) n h = omega arith
+loadable_short Delay (suc (suc zero)) n h = omega arith
 loadable_short Delay (suc (suc (suc k))) n h = absurd h

@@ -12,8 +12,6 @@ abbrev with_line : ℕ → ShownLanding × Active → ℕ
 with_line latest x = max (landing_of x).second latest
 
 pub returns : goal.returns
-returns c =
-    fold_from_yields_List _ with_line 0 _ c.fold.ensures.ran (YieldsList-from_rev_slice c.args.found.now (cc))
-    (λ latest x r q k. search (rules, tests))
-    ∙ fold_from_back with_line 0 (λ xs. greatest (map (λ f. f.second) (map landing_of xs))) refl
-    (λ x xs. refl) c.args.found.now
+returns c = fold_from_yields_List _ with_line 0 _ c.fold.ensures.ran (YieldsList-from_rev_slice c.args.found.now (cc))
+    (λ latest x r q k. search (rules, tests)) ∙ fold_from_back with_line 0
+    (λ xs. greatest (map (λ f. f.second) (map landing_of xs))) refl (λ x xs. refl) c.args.found.now

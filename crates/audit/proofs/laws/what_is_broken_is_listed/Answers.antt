@@ -7,8 +7,7 @@ pub returns : goal.returns
 returns c = record {
   flights = each_break Active;
   lines = each_break ShownLanding;
-  marks =
-      each_break (ShownLanding × Active);
+  marks = each_break (ShownLanding × Active);
   landings = each_break Landing;
   pairs = each_pair Landing;
 }

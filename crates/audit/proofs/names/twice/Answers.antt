@@ -22,18 +22,12 @@ loop-line-preserved c =
       λ d. seen_step lines i l above d _ c.loop-line-test.true c.line-item.is (kept.2 d),
       ap (λ x. x ++ twice_after (shown_of l ∷ above) (map shown_of (drop (i + 1) lines))) c.in_ok-note_again.ensures
           ∙ twice_step lines i l above (map finding_of c.loop-line.all.items)
-          (repeated c.in_ok-was_seen.was_seen l.callsign) _
-          c.loop-line-test.true c.line-item.is
+          (repeated c.in_ok-was_seen.was_seen l.callsign) _ c.loop-line-test.true c.line-item.is
           (ap (λ b. repeated b l.callsign) (c.in_ok-was_seen.ensures.was ∙ kept.1 l.callsign)) kept.3,
     )
 
 pub loop-line-init : goal.loop-line-init
-loop-line-init c = (
-  [],
-  λ d. ap (λ (s : List (List ℕ)). has_name s d) c.requires,
-  λ d. refl,
-  refl,
-)
+loop-line-init c = ([], λ d. ap (λ (s : List (List ℕ)). has_name s d) c.requires, λ d. refl, refl)
 
 pub returns-clause-found : goal.returns-clause-found
 returns-clause-found c =

@@ -18,6 +18,5 @@ loop-i-preserved c =
     c.loop-i-test.true (ap (get_or lines i) c.index-lines-i.is) refl c.loop-i.invariant
 
 pub returns : goal.returns
-returns c = at_end (map finding_of c.loop-i.all.items)
-    (λ ls. disordered_from (c.loop-i.i + 2) c.loop-i.before (map shown_of ls)) c.args.lines.now
-    c.loop-i.i _ c.loop-i-test.false refl c.loop-i.invariant
+returns c = at_end (map finding_of c.loop-i.all.items) (λ ls. disordered_from (c.loop-i.i + 2) c.loop-i.before
+    (map shown_of ls)) c.args.lines.now c.loop-i.i _ c.loop-i-test.false refl c.loop-i.invariant

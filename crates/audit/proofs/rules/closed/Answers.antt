@@ -8,14 +8,12 @@ use Rattle.audit.proofs.Failing.{failing_step}
 use Rattle.audit.proofs.rules.closed.Goals as goal
 
 pub loop-f-preserved : goal.loop-f-preserved
-loop-f-preserved c =
-    ap (λ y. y ++ closed c.args.situation.now (map landing_of (drop (c.loop-f.f-index + 1) c.args.found.now)))
-    c.in_ok-note_closed.ensures
+loop-f-preserved c = ap (λ y. y ++ closed c.args.situation.now
+    (map landing_of (drop (c.loop-f.f-index + 1) c.args.found.now))) c.in_ok-note_closed.ensures
     ∙ failing_step (λ (f : Landing). is_open f.flight.windows c.args.situation.now.closures f.second)
     (λ (f : Landing). Closed f.flight.callsign f.second) landing_of c.args.found.now c.loop-f.f-index c.f-item.result _
     (map finding_of c.loop-f.all.items) _ c.loop-f-test.true c.f-item.is refl c.loop-f.invariant
 
 pub returns : goal.returns
-returns c =
-    at_end (map finding_of c.loop-f.all.items) (λ ys. closed c.args.situation.now (map landing_of ys)) c.args.found.now
-    c.loop-f.f-index _ c.loop-f-test.false refl c.loop-f.invariant
+returns c = at_end (map finding_of c.loop-f.all.items) (λ ys. closed c.args.situation.now (map landing_of ys))
+    c.args.found.now c.loop-f.f-index _ c.loop-f-test.false refl c.loop-f.invariant

@@ -7,14 +7,11 @@ use Rattle.audit.proofs.Failing.{failing_step}
 use Rattle.audit.proofs.rules.early.Goals as goal
 
 pub loop-f-preserved : goal.loop-f-preserved
-loop-f-preserved c =
-    ap (λ y. y ++ early c.args.horizon (map landing_of (drop (c.loop-f.f-index + 1) c.args.found.now)))
-    c.in_ok-note_early.ensures
-    ∙ failing_step (is_late_enough c.args.horizon)
+loop-f-preserved c = ap (λ y. y ++ early c.args.horizon (map landing_of (drop (c.loop-f.f-index + 1) c.args.found.now)))
+    c.in_ok-note_early.ensures ∙ failing_step (is_late_enough c.args.horizon)
     (λ (f : Landing). Early f.flight.callsign) landing_of c.args.found.now c.loop-f.f-index c.f-item.result _
     (map finding_of c.loop-f.all.items) _ c.loop-f-test.true c.f-item.is refl c.loop-f.invariant
 
 pub returns : goal.returns
-returns c =
-    at_end (map finding_of c.loop-f.all.items) (λ ys. early c.args.horizon (map landing_of ys)) c.args.found.now
-    c.loop-f.f-index _ c.loop-f-test.false refl c.loop-f.invariant
+returns c = at_end (map finding_of c.loop-f.all.items) (λ ys. early c.args.horizon (map landing_of ys))
+    c.args.found.now c.loop-f.f-index _ c.loop-f-test.false refl c.loop-f.invariant

@@ -17,6 +17,5 @@ loop-f-preserved c =
     c.loop-f-test.true c.f-item.is refl c.loop-f.invariant
 
 pub returns : goal.returns
-returns c = at_end (map finding_of c.loop-f.all.items)
-    (λ ys. listed_late (map landing_of ys) (landing_of c.args.d.now) c.args.callsign)
-    c.args.found.now c.loop-f.f-index _ c.loop-f-test.false refl c.loop-f.invariant
+returns c = at_end (map finding_of c.loop-f.all.items) (λ ys. listed_late (map landing_of ys) (landing_of c.args.d.now)
+    c.args.callsign) c.args.found.now c.loop-f.f-index _ c.loop-f-test.false refl c.loop-f.invariant

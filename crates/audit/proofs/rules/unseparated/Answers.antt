@@ -16,6 +16,5 @@ loop-i-preserved c =
     c.loop-i-test.true c.index-found-i.is refl c.loop-i.invariant
 
 pub returns : goal.returns
-returns c =
-    at_end (map finding_of c.loop-i.all.items) (λ ls. unseparated c.args.table.now (map landing_of ls))
+returns c = at_end (map finding_of c.loop-i.all.items) (λ ls. unseparated c.args.table.now (map landing_of ls))
     c.args.found.now c.loop-i.i _ c.loop-i-test.false refl c.loop-i.invariant

@@ -17,6 +17,5 @@ loop-g-preserved c =
     c.loop-g-test.true c.g-item.is refl c.loop-g.invariant
 
 pub returns : goal.returns
-returns c = at_end (map finding_of c.loop-g.all.items)
-    (λ ys. too_near c.args.table.now (landing_of c.args.first.now) (map landing_of ys))
-    c.args.others.now c.loop-g.g-index _ c.loop-g-test.false refl c.loop-g.invariant
+returns c = at_end (map finding_of c.loop-g.all.items) (λ ys. too_near c.args.table.now (landing_of c.args.first.now)
+    (map landing_of ys)) c.args.others.now c.loop-g.g-index _ c.loop-g-test.false refl c.loop-g.invariant

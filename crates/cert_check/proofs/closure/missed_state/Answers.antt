@@ -30,14 +30,10 @@ find_map-requires-clause-callable c =
     let below : k < length ss = omega (arith, length-enumerate_from 0 ss, lt) in
     let there = e ∙ get_or-enumerate_from 0 ss k (x.0, x.1.now) below in
     let few : x.0 < greatest_word = omega (arith, ap (λ s. s.0) there, below, c.requires.few) in
-    let shaped = ap (λ s. is_misshapen p s.1) there
-    ∙ each_fails (is_misshapen p) 1 ss c.requires.shaped k x.1.now below in
+    let shaped = ap (λ s. is_misshapen p s.1) there ∙ each_fails _ 1 ss c.requires.shaped k _ below in
     search (rules, few, shaped))
 
 pub returns : goal.returns
-returns c =
-    first_answer_from_find_map
-    (λ s. with_number (s.0 + 1) (first_missed c.args.problem.now c.args.states.now (node_of s.1) s.1.pairs)) _
-    (λ x r q k. search (rules, tests)) c.find_map.result c.find_map.ensures.runs
-    (YieldsList-from_enumerate (YieldsList-from_slice c.args.states.now (search (rules))) (search (rules)))
-    ∙ states_answer c.args.problem.now c.args.states.now 0 c.args.states.now
+returns c = first_answer_from_find_map (λ s. with_number _ _) _ (λ x r q k. search (rules, tests)) c.find_map.result
+    c.find_map.ensures.runs (YieldsList-from_enumerate (YieldsList-from_slice c.args.states.now (search (rules)))
+    (search (rules))) ∙ states_answer c.args.problem.now c.args.states.now 0 c.args.states.now

@@ -8,6 +8,5 @@ pub returns : goal.returns
 returns c = record {
   kept = kept_is_whole;
   unique = whole_is_unique;
-  in_form =
-      λ p ss well h pairs. whole_in_form p well ss h pairs;
+  in_form = λ p ss well h pairs. whole_in_form p well ss h pairs;
 }

@@ -11,14 +11,12 @@ use Rattle.cert_check.proofs.Digits.{power_more, power_small, more_digits}
 use Rattle.cert_check.proofs.node.pushed_ones.Goals as goal
 
 pub fold-requires-clause-callable : goal.fold-requires-clause-callable
-fold-requires-clause-callable c =
-    fold_of_range_may_call_keeping _ (2 * c.args.k) (search (rules, tests)) (λ i ones. ones + 1 ≤ 2 ^ i) (omega arith)
-    (λ i x ones made q small called.
+fold-requires-clause-callable c = fold_of_range_may_call_keeping _
+    (2 * c.args.k) (search (rules, tests)) (λ i ones. ones + 1 ≤ 2 ^ i) (omega arith) (λ i x ones made q small called.
     let (b, is) : (b : Bool) × (made ≡ 2 * ones + from_bool b) = search (rules, tests) in
     (search (rules, tests), omega (arith, is, byte b, byte_low b, power_more i, small)))
     (λ i ones lt small.
-    let few = power_small i (omega (arith, lt, c.requires.k)) in
-    search (rules, tests))
+    let few = power_small i (omega (arith, lt, c.requires.k)) in search (rules, tests))
 
 pub returns : goal.returns
 returns c =

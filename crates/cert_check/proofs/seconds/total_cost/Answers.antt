@@ -41,11 +41,10 @@ returns c =
       value = (sum_by_from_yields_List cost _ c.map.result _ c.sum.ensures.ran
           (YieldsList-from_map _ cost ranks c.map.ensures.closure (λ x r q k. search (rules, tests)))) ∙ ranks_folded
           (λ a r. a + cost r) (λ n. total cost (upto n)) (λ n. omega arith) n;
-      small =
-          omega (
-            arith,
-            (sum_by_from_yields_List (small cost) _ c.map.result _ c.sum.ensures.ran
-                (YieldsList-from_map _ (small cost) ranks c.map.ensures.closure (λ x r q k. search (rules, tests)))),
-            small_sum cost n 1,
-          );
+      small = omega (
+        arith,
+        (sum_by_from_yields_List (small cost) _ c.map.result _ c.sum.ensures.ran
+            (YieldsList-from_map _ (small cost) ranks c.map.ensures.closure (λ x r q k. search (rules, tests)))),
+        small_sum cost n 1,
+      );
     }

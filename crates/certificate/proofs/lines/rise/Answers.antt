@@ -29,10 +29,9 @@ one_falls [] k lt falls = absurd (omega arith)
 one_falls (p ∷ []) k lt falls = absurd (omega arith)
 one_falls (p ∷ q ∷ xs) zero lt falls = let here = falls p in grind arith
 one_falls (p ∷ q ∷ xs) (suc k) lt falls =
-    let rest = one_falls (q ∷ xs) k (omega arith)
-    (λ d. subst (λ n. false ≡ is_next (slice_index_or (q ∷ xs) k d) (slice_index_or (p ∷ q ∷ xs) n d))
-    (one_on k) (falls d)) in
-    grind arith
+    let rest = one_falls (q ∷ xs) k (omega arith) (λ d. subst (λ n. false ≡ is_next (slice_index_or (q ∷ xs) k d)
+    (slice_index_or (p ∷ q ∷ xs) n d)) (one_on k) (falls d)) in
+    search rules
 
 answered : (xs : List Pair) (r : Bool) → IsAllAdjacentAnswer (λ x y b. b ≡ is_next x y) xs r → r ≡ rises xs
 answered xs true each = all_rise xs each

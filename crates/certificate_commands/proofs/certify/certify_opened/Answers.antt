@@ -25,8 +25,7 @@ returns g c = record {
   answer = c.in_ok-schedule.schedule;
   best = c.in_ok-schedule.ensures.answer;
   shows = subst (λ (o : Option Schedule). ShowsAnswer c.in_ok-problem.problem o c.in_ok-certificate.certificate.claim
-      c.in_ok-certificate.certificate.landings)
-      c.as_ref.ensures.value c.in_ok-certificate.ensures.shows;
+      c.in_ok-certificate.certificate.landings) c.as_ref.ensures.value c.in_ok-certificate.ensures.shows;
 }
 
 pub returns-in_err-problem : goal.returns-in_err-problem

@@ -9,10 +9,9 @@ returns c = record {
   problem = c.in_ok-problem.problem;
   problem_of = c.in_ok-problem.ensures.problem;
   verdict_is = c.judge.ensures.exact;
-  true_of = true_of _ _ _ c.problem_stands_for_situation.ensures.best
-      c.problem_stands_for_situation.ensures.objectives c.problem_stands_for_situation.ensures.none
-      c.in_ok-problem.ensures.sound c.in_ok-problem.ensures.problem c.judge.result c.judge.ensures.optimal
-      c.judge.ensures.infeasible;
+  true_of = true_of _ _ _ c.problem_stands_for_situation.ensures.best c.problem_stands_for_situation.ensures.objectives
+      c.problem_stands_for_situation.ensures.none c.in_ok-problem.ensures.sound
+      c.in_ok-problem.ensures.problem c.judge.result c.judge.ensures.optimal c.judge.ensures.infeasible;
   sound = c.in_ok-problem.ensures.sound;
   well_formed = c.head-well_formed.ensures.well_formed;
   in_form = c.claim-in_form.ensures.certificate;

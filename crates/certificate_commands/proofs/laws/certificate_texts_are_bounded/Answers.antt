@@ -7,6 +7,5 @@ returns c =
     record {
       certify = certify_short laws.bounded;
       check = check_short;
-      loadable =
-          certify_loadable laws.bounded laws.loadable;
+      loadable = certify_loadable laws.bounded laws.loadable;
     }

@@ -22,8 +22,7 @@ loop-rest-preserved c =
     let long = ap length here in
     let few = c.loop-rest.invariant.1 in (
       loop_step (labels_drawn active rows c.args.lines.now found n)
-          (labels_drawn active rows c.args.lines.now found (n + 1)) _ _ _ _ _ _ _ here c.in_ok-push.ensures.items (ap
-          (λ (l : Label). element.Label n l ∷ behind) (sym label))
-          c.loop-rest.invariant.0,
+          (labels_drawn active rows c.args.lines.now found (n + 1)) _ _ _ _ _ _ _ here c.in_ok-push.ensures.items
+          (ap (λ (l : Label). element.Label n l ∷ behind) (sym label)) c.loop-rest.invariant.0,
       omega (arith, long, few),
     )

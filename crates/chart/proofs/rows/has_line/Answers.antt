@@ -15,7 +15,6 @@ shown [] c = refl
 shown (l ∷ ls) c = ap (λ b. bytes_eq (shown_of l).callsign c || b) (shown ls c)
 
 pub returns : goal.returns
-returns c =
-    any_from_yields_List (λ l. bytes_eq (shown_of l).callsign c.args.callsign) _ _ c.any.result c.any.ensures.ran
-    (YieldsList-from_slice c.args.lines.now (search (rules))) (λ x b q k. search (rules, tests))
+returns c = any_from_yields_List (λ l. bytes_eq (shown_of l).callsign c.args.callsign) _ _ c.any.result
+    c.any.ensures.ran (YieldsList-from_slice c.args.lines.now (search (rules))) (λ x b q k. search (rules, tests))
     ∙ shown c.args.lines.now c.args.callsign

@@ -18,9 +18,8 @@ loop-rest-preserved c =
     let behind = rows_drawn table span c.args.lines.now found (n + 1) tail in
     let long = ap length here in
     let few = c.loop-rest.invariant.1 in (
-      loop_step (rows_drawn table span c.args.lines.now found n)
-          (rows_drawn table span c.args.lines.now found (n + 1)) _ _ _ _ _ _ _ here c.in_ok-add_row.ensures (ap (λ
-          (b : Bool). row_drawn table span n b row tail ++ behind)
+      loop_step (rows_drawn table span c.args.lines.now found n) (rows_drawn table span c.args.lines.now found (n + 1))
+          _ _ _ _ _ _ _ here c.in_ok-add_row.ensures (ap (λ (b : Bool). row_drawn table span n b row tail ++ behind)
           (sym c.flags_row-flagged.ensures)) c.loop-rest.invariant.0,
       omega (arith, long, few),
     )

@@ -15,7 +15,6 @@ told lines [] c = refl
 told lines (f ∷ fs) c = ap (λ b. names lines c (finding_of f) || b) (told lines fs c)
 
 pub returns : goal.returns
-returns c =
-    any_from_yields_List (λ f. names c.args.lines.now c.args.callsign (finding_of f)) _ _ c.any.result c.any.ensures.ran
-    (YieldsList-from_slice c.args.found.now (search (rules))) (λ x b q k. search (rules, tests))
+returns c = any_from_yields_List (λ f. names c.args.lines.now c.args.callsign (finding_of f)) _ _ c.any.result
+    c.any.ensures.ran (YieldsList-from_slice c.args.found.now (search (rules))) (λ x b q k. search (rules, tests))
     ∙ told c.args.lines.now c.args.found.now c.args.callsign

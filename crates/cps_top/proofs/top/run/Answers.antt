@@ -15,9 +15,8 @@ pub returns-clause-exact : goal.returns-clause-exact
 returns-clause-exact g c = exact _ _ _ c.status.result c.work-ending.result c.status.ensures c.work-ending.ensures
 
 pub returns-clause-sure : goal.returns-clause-sure
-returns-clause-sure g c =
-    is_sure c.texts_are_bounded.ensures _ _ _ c.status.result c.work-ending.result c.status.ensures
-    c.work-ending.ensures
+returns-clause-sure g c = is_sure
+    c.texts_are_bounded.ensures _ _ _ c.status.result c.work-ending.result c.status.ensures c.work-ending.ensures
 
 pub returns-clause-outcome : goal.returns-clause-outcome
 returns-clause-outcome g c = record {

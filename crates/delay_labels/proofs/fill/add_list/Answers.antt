@@ -1,3 +1,4 @@
+use Rattle.std.proofs.lemmas.Grind.{common_steps}
 use Rattle.std.proofs.Common.{◌≡◌, ℕ, suc, ◌-◌, ◌≤◌, List, [], ◌∷◌, ◌++◌, length, arith, rules, sym, ap, ap₂, subst}
 use Rattle.std.proofs.Common.{◌∙◌}
 use Rattle.std.specs.Prelude.{All, pos, ◌+ℤ◌}
@@ -11,7 +12,6 @@ use Rattle.cps_network.specs.Lists.{node_at}
 use Rattle.cps_network.specs.shared.LeadingWindows.{Sources, sources_from, same_rank, in_bytes, some_range}
 use Rattle.cps_network.specs.shared.LeadingWindows.{leader_range, rank_range}
 use Rattle.delay_labels.specs.Bounds.{beyond_costs}
-use Rattle.delay_labels.specs.Followers.{IsLead}
 use Rattle.delay_labels.specs.Lists.{successors_in}
 use Rattle.delay_labels.specs.Parts.{IsInDays}
 use Rattle.delay_labels.proofs.PairLemmas.{listed_small, pairs_here, leader_within, rank_within}
@@ -22,11 +22,7 @@ use Rattle.delay_labels.proofs.fill.add_list.Goals.{After-sources-range, After-l
 led_from : (g : _) (c : After-sources-range g) → Sources c.args.filling.now.problem.now g.row.W
     c.args.filling.now.before.now.0 c.args.filling.now.before.now.1
     (node_at c.args.filling.now.stage.now.1 c.args.i) c.sources-range.result.0 c.sources-range.result.1
-led_from g c =
-    let behind = c.requires.behind in
-    sources_from c.args.filling.now.problem.now g.row.W c.args.filling.now.before.now c.args.filling.now.stage.now
-    c.args.i _ _ behind.width behind.laws behind.held.landable behind.next c.requires.within
-    c.sources-range.ensures.range.1 c.sources-range.ensures.exact
+led_from g c = search (rules, sources_from)
 
 leader_is : (g : _) (c : After-last_rank-last g) → pos c.last_rank-last.result ≡ pos c.args.filling.now.before.now.0
     +ℤ offset_at (node_at c.args.filling.now.before.now.1 c.sources-range.result.0) (g.row.W - 1)
@@ -34,8 +30,7 @@ leader_is g c = same_rank _ _ _ _ _ _ c.node.ensures.value c.number.ensures c.la
 
 rank_is : (g : _) (c : After-turn_to g) → pos c.last_rank-rank.result ≡ pos (suc c.args.filling.now.before.now.0)
     +ℤ offset_at (node_at c.args.filling.now.stage.now.1 c.args.i) (g.row.W - 1)
-rank_is g c = same_rank _ _ c.number-2.result (suc c.args.filling.now.before.now.0) _ _ c.node-2.ensures.value
-    (omega (arith, c.number-2.ensures, c.requires.behind.number)) c.last_rank-rank.ensures
+rank_is g c = grind (arith, common_steps)
 
 pub node-requires : goal.node-requires
 node-requires g c =
@@ -90,8 +85,7 @@ collect_successors-requires-clause-rank g c =
     (omega (arith, k.0, c.turn_to.ensures.rank), omega (arith, k.1, c.turn_to.ensures.rank))
 
 pub collect_successors-requires-clause-lead : goal.collect_successors-requires-clause-lead
-collect_successors-requires-clause-lead g c =
-    subst (IsLead c.args.filling.now.problem.now c.of-lead.result) (sym c.turn_to.ensures.rank) c.of-lead.ensures.lead
+collect_successors-requires-clause-lead g c = grind (arith, common_steps)
 
 pub collect_successors-requires-clause-costs : goal.collect_successors-requires-clause-costs
 collect_successors-requires-clause-costs g c =
@@ -102,10 +96,9 @@ collect_successors-requires-clause-costs g c =
     (rank_is g d.After-turn_to) i (omega (arith, hi, c.sources-range.ensures.range))
 
 pub add_list-requires : goal.add_list-requires
-add_list-requires g c =
-    subst (λ (l : List Pair). All IsInDays l) (sym c.as_slice.ensures.value)
-    (All-permutation IsInDays c.collect_successors.new.into.items c.put_in_order.new.pairs.items
-    c.put_in_order.ensures.same c.collect_successors.ensures.in_days)
+add_list-requires g c = subst (λ (l : List Pair). All IsInDays l)
+    (sym c.as_slice.ensures.value) (All-permutation IsInDays c.collect_successors.new.into.items
+    c.put_in_order.new.pairs.items c.put_in_order.ensures.same c.collect_successors.ensures.in_days)
 
 pub returns-clause-list : goal.returns-clause-list
 returns-clause-list g c =

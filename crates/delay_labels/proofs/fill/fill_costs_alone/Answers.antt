@@ -1,3 +1,4 @@
+use Rattle.std.proofs.Common.{rules}
 use Rattle.std.proofs.Common.{ℕ, subst, arith, ◌∙◌}
 use Rattle.cps_network.specs.Pairs.{list_at}
 use Rattle.cps_network.specs.shared.LandableSteps.{has_next}
@@ -5,14 +6,10 @@ use Rattle.delay_labels.specs.Runs.{IsListOf}
 use Rattle.delay_labels.proofs.fill.fill_costs_alone.Goals as goal
 
 pub returns-in_err-costs-clause-landable : goal.returns-in_err-costs-clause-landable
-returns-in_err-costs-clause-landable g c =
-    has_next c.args.problem.now c.prefix_laws.ensures.network c.args.before.now c.args.stage.now
-    c.requires.number c.requires.before.landable c.requires.next
+returns-in_err-costs-clause-landable g c = search (rules, has_next)
 
 pub returns-clause-landable : goal.returns-clause-landable
-returns-clause-landable g c =
-    has_next c.args.problem.now c.prefix_laws.ensures.network c.args.before.now c.args.stage.now
-    c.requires.number c.requires.before.landable c.requires.next
+returns-clause-landable g c = search (rules, has_next)
 
 pub returns-clause-pairs : goal.returns-clause-pairs
 returns-clause-pairs g c = record {

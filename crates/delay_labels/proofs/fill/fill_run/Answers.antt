@@ -1,4 +1,4 @@
-use Rattle.std.proofs.Common.{ℕ, List, ◌+◌, ◌<◌, length, length-set, arith, rules, ◌∙◌}
+use Rattle.std.proofs.Common.{ℕ, List, ◌+◌, length-set, rules, ◌∙◌}
 use Rattle.std.proofs.lemmas.List.Elements.{All-set}
 use Rattle.cps_theory.specs.Labels.{Pair}
 use Rattle.delay_labels.specs.Followers.{IsFollower}
@@ -13,12 +13,7 @@ loop-m-init g c =
     search (rules, none)
 
 pub add_list-requires : goal.add_list-requires
-add_list-requires g c =
-    let within : c.args.from + c.loop-m.m < length c.args.filling.now.stage.now.1 =
-    omega (arith, c.loop-m-test.true, c.loop-m.auto.m-end, c.requires.within) in
-    let follower = c.loop-m.invariant.2 c.follower_of.result _
-    (omega (arith, c.follower_of.ensures, c.loop-m.invariant.3)) in
-    (search rules, (c.requires.behind, (within, follower)))
+add_list-requires g c = search rules
 
 pub loop-m-preserved : goal.loop-m-preserved
 loop-m-preserved g c =

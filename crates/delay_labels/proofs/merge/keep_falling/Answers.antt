@@ -19,8 +19,7 @@ loop-pair-preserved c =
           ++ pair_at c.args.sorted.now c.loop-pair.pair-index ∷ [] = cc (w.into-is, w.in_ok-push.ensures.items) in
           let long = length_push c.loop-pair.into.items (pair_at c.args.sorted.now c.loop-pair.pair-index) in (
             ap (λ (n : ℕ). c.if-pair-least.into.items ++ sweep n (drop (c.loop-pair.pair-index + 1) c.args.sorted.now))
-                w.least-is
-                ∙ sweep_more c.args.sorted.now c.loop-pair.into.items c.if-pair-least.into.items
+                w.least-is ∙ sweep_more c.args.sorted.now c.loop-pair.into.items c.if-pair-least.into.items
                 _ c.loop-pair.pair-index c.loop-pair.least c.loop-pair-test.true w.if-pair-least.true put inv.0,
             λ days old. subst (All IsInDays) (sym put)
                 (All-push IsInDays c.loop-pair.into.items (pair_at c.args.sorted.now c.loop-pair.pair-index)
@@ -31,9 +30,8 @@ loop-pair-preserved c =
       | else-pair-least w ↦ (
           let put : c.if-pair-least.into.items ≡ c.loop-pair.into.items = cc w.into-is in (
             ap₂ (λ (l : List Pair) (n : ℕ). l ++ sweep n (drop (c.loop-pair.pair-index + 1) c.args.sorted.now))
-                put w.least-is
-                ∙ sweep_past c.args.sorted.now c.loop-pair.into.items _ c.loop-pair.pair-index
-                c.loop-pair.least c.loop-pair-test.true w.if-pair-least.false inv.0,
+                put w.least-is ∙ sweep_past c.args.sorted.now c.loop-pair.into.items
+                _ c.loop-pair.pair-index c.loop-pair.least c.loop-pair-test.true w.if-pair-least.false inv.0,
             λ days old. subst (All IsInDays) (sym put) (inv.1 days old),
             omega (arith, ap (length {A = Pair}) put, inv.2),
           )

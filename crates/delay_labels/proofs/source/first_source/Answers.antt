@@ -1,4 +1,5 @@
-use Rattle.std.proofs.Common.{◌≡◌, ℕ, ◌<◌, ◌≤◌, List, length, Option, Some, None, rules, tests, refl, sym, subst, arith}
+use Rattle.std.proofs.lemmas.Grind.{common_steps}
+use Rattle.std.proofs.Common.{◌≡◌, ℕ, ◌<◌, ◌≤◌, List, length, Option, rules, tests, refl, arith}
 use Rattle.std.specs.Prelude.{MatchOption}
 use Rattle.std.proofs.lemmas.Iterator.{serves_from_Range}
 use Rattle.cps_theory.specs.Labels.{Pair}
@@ -15,10 +16,7 @@ at_place : (p : Problem) (l r : ℕ) (lists : List (List Pair)) (from to : ℕ) 
     × ((i : ℕ) → from ≤ i → i < k → GivesNone p l r (list_at lists i) q))
     → MatchOption found ((i : ℕ) → from ≤ i → i < to → GivesNone p l r (list_at lists i) q)
     (IsFirstSource p l r lists from to q)
-at_place p l r lists from to q None none = none
-at_place p l r lists from to q (Some (place, index)) (k, lo, hi, (same, first), none) =
-    subst (λ (n : ℕ). (from ≤ n) × (n < to) × GivesFirst p l r (list_at lists n) q index
-    × ((i : ℕ) → from ≤ i → i < n → GivesNone p l r (list_at lists i) q)) (sym same) (lo, hi, first, none)
+at_place p l r lists from to q found none = grind (arith, common_steps)
 
 pub find_map-requires-clause-callable : goal.find_map-requires-clause-callable
 find_map-requires-clause-callable c =

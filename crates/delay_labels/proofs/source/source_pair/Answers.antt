@@ -6,7 +6,7 @@ use Rattle.cps_nodes.specs.Windows.{offset_at}
 use Rattle.cps_network.specs.Lists.{node_at}
 use Rattle.cps_network.specs.shared.LeadingWindows.{Sources, sources_of, same_rank, in_bytes, some_range, leader_range}
 use Rattle.cps_network.specs.shared.LeadingWindows.{rank_range}
-use Rattle.delay_labels.proofs.PairLemmas.{listed_small, source_known, first_to_give, given_source, leader_within}
+use Rattle.delay_labels.proofs.PairLemmas.{listed_small, source_known, first_to_give, leader_within}
 use Rattle.delay_labels.proofs.PairLemmas.{rank_within}
 use Rattle.delay_labels.proofs.source.source_pair.Goals as goal
 use Rattle.delay_labels.proofs.source.source_pair.Goals.{After-last_rank-last, After-last_rank-rank}
@@ -15,10 +15,7 @@ use Rattle.delay_labels.proofs.source.source_pair.Goals.{After-sources-range}
 -- the windows that lead to the node
 led_from : (g : _) (c : After-sources-range g) → Sources c.args.problem.now g.row.W c.args.before.now.0
     c.args.before.now.1 c.args.node.now c.sources-range.result.0 c.sources-range.result.1
-led_from g c = sources_of c.args.problem.now g.row.W c.args.before.now c.args.node.now _ _ c.requires.width
-    c.prefix_laws.ensures.network c.prefix_laws.ensures.sources c.window_laws.ensures.ranks c.window_laws.ensures.leads
-    c.requires.before.landable (given_source _ _ _ _ _ _ _ c.requires.given.2) c.sources-range.ensures.range.1
-    c.sources-range.ensures.exact
+led_from g c = search (rules, sources_of)
 
 leader_is : (g : _) (c : After-last_rank-last g) → pos c.last_rank-last.result ≡ pos c.args.before.now.0
     +ℤ offset_at (node_at c.args.before.now.1 c.sources-range.result.0) (g.row.W - 1)
@@ -26,8 +23,7 @@ leader_is g c = same_rank _ _ _ _ _ _ c.node.ensures.value c.number.ensures c.la
 
 rank_is : (g : _) (c : After-last_rank-rank g) → pos c.last_rank-rank.result ≡ pos (suc c.args.before.now.0)
     +ℤ offset_at c.args.node.now (g.row.W - 1)
-rank_is g c = same_rank c.args.node.now _ (c.number-2.result + 1) (suc c.args.before.now.0) _ _ refl
-    (omega (arith, c.number-2.ensures)) c.last_rank-rank.ensures
+rank_is g c = search (rules, same_rank)
 
 pub node-requires : goal.node-requires
 node-requires g c =

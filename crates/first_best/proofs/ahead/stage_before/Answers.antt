@@ -9,8 +9,7 @@ complete-requires-clause-nodes c =
     let found = c.in_ok-found.found in
     let are = held_nodes p _ c.window_laws.ensures.network c.window_laws.ensures.tell
     (c.stages-held.ensures.held p c.requires.held) _ c.requires.stage.1 found.items _ c.in_ok-found.ensures in
-    rw c.as_slice-nodes.ensures.value (λ j lt. rank_of p _
-    _ c.requires.stage.0 (are.reached j lt))
+    rw c.as_slice-nodes.ensures.value (λ j lt. rank_of p _ _ c.requires.stage.0 (are.reached j lt))
 
 pub complete-requires-clause-next : goal.complete-requires-clause-next
 complete-requires-clause-next c = behind_ranges _ _ _ _ _ c.requires.next

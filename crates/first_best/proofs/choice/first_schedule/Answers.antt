@@ -12,8 +12,7 @@ loop-done-init c =
     let blank = c.in_ok-schedule.ensures in
     no_order p c.window_laws.ensures.well_formed _ _ _ c.requires.ahead _
     (blank ∙ ap (λ n. replicate n 0) c.len.ensures.value)
-    (ap length (blank ∙ ap (λ n. replicate n 0) c.len.ensures.value)
-    ∙ length-replicate _ 0)
+    (ap length (blank ∙ ap (λ n. replicate n 0) c.len.ensures.value) ∙ length-replicate _ 0)
 
 -- the least choice, which comes next
 least : (c : goal.After-least_choice-rank) → CanChoose c.args.problem.now c.args.value

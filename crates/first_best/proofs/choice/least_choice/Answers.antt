@@ -35,9 +35,8 @@ kept c =
     (search (rules, tests), (rw lesser.2 one, days held.1)))
 
 pub returns-clause-least : goal.returns-clause-least
-returns-clause-least c =
-    least_upto _ _ _ _ _ _ _ _ c.len.ensures (λ i lt. let r = (c.requires.ranks i lt).1 in let few =
-    c.len-few.ensures.well_formed.few_flights in omega arith) (kept c).0
+returns-clause-least c = least_upto _ _ _ _ _ _ _ _ c.len.ensures (λ i lt.
+    let r = (c.requires.ranks i lt).1 in let few = c.len-few.ensures.well_formed.few_flights in omega arith) (kept c).0
 
 pub returns-clause-in_days : goal.returns-clause-in_days
 returns-clause-in_days c = (kept c).1

@@ -8,11 +8,8 @@ returns-clause-lesser c =
     let p = c.args.prefix.now.problem.now in
     let node = node_at c.args.stage.now.nodes c.args.j in
     let found = c.found_by-found.result in
-    let here = rw c.list.ensures at (rw c.node-after.ensures at c.found_by-found.ensures.found) in (
-      found,
-      here,
-      rw c.node-after.ensures at c.lesser.ensures,
-    )
+    let here = rw c.list.ensures at (rw c.node-after.ensures at c.found_by-found.ensures.found) in
+    (found, here, rw c.node-after.ensures at c.lesser.ensures)
 
 pub returns-clause-in_days : goal.returns-clause-in_days
 returns-clause-in_days c = λ days. rw c.lesser.ensures (lesser_days last_second _ _ _

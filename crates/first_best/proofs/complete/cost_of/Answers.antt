@@ -14,5 +14,4 @@ returns-then-is_allowed-clause-least c =
 
 pub returns-else-is_allowed-clause-least : goal.returns-else-is_allowed-clause-least
 returns-else-is_allowed-clause-least c =
-    let p = c.args.wanted.now.problem.now in
-    not_allowed p _ _ _ _ _ (sym c.is_allowed.ensures ∙ c.if-is_allowed.false)
+    let p = c.args.wanted.now.problem.now in not_allowed p _ _ _ _ _ (sym c.is_allowed.ensures ∙ c.if-is_allowed.false)

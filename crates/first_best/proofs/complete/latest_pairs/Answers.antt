@@ -13,8 +13,7 @@ is_small p stage o cost small e = rw e at small
 
 pub returns-then-least-eq0 : goal.returns-then-least-eq0
 returns-then-least-eq0 c =
-    let i = c.loop-second.invariant in
-    scanned_free _ _ _ _ _ _ i.0 i.1 _ _ _ c.if-least-eq0.true i.2
+    let i = c.loop-second.invariant in scanned_free _ _ _ _ _ _ i.0 i.1 _ _ _ c.if-least-eq0.true i.2
 
 pub loop-second-preserved : goal.loop-second-preserved
 loop-second-preserved c =
@@ -57,5 +56,4 @@ loop-second-preserved-else-from-least c =
 
 pub returns : goal.returns
 returns c =
-    let i = c.loop-second.invariant in
-    scanned_all _ _ _ _ _ _ i.0 i.1 _ _ _ c.loop-second-test.false i.2
+    let i = c.loop-second.invariant in scanned_all _ _ _ _ _ _ i.0 i.1 _ _ _ c.loop-second-test.false i.2

@@ -14,8 +14,7 @@ in_reach : (c : goal.After-cost)
 in_reach c =
     let rest = c.in_ok-rest.ensures.0 in
     let left = length c.args.problem.now.flights - c.args.stage - 1 in
-    let small = (c.requires.next.in_reach c.args.way left (omega arith) rest.0
-    (rw c.list.ensures at rest.1)).1 in
+    let small = (c.requires.next.in_reach c.args.way left (omega arith) rest.0 (rw c.list.ensures at rest.1)).1 in
     let is = rest.3 in
     omega (arith, small, is, c.cost.ensures.small, c.in_ok-landing.ensures.in_days, c.requires.stage)
 
@@ -23,9 +22,8 @@ pub overflow_add-result : goal.overflow_add-result
 overflow_add-result c = (let small = in_reach c in omega arith)
 
 pub returns-clause-least : goal.returns-clause-least
-returns-clause-least c =
-    rw (c.cost.ensures.value, sym c.list.ensures, sym c.node-after.ensures) (way_cost _ _ _ _ _ _
-    (sym c.landing_after.ensures.value ∙ c.in_ok-landing.was) _ c.in_ok-rest.ensures)
+returns-clause-least c = rw (c.cost.ensures.value, sym c.list.ensures, sym c.node-after.ensures)
+    (way_cost _ _ _ _ _ _ (sym c.landing_after.ensures.value ∙ c.in_ok-landing.was) _ c.in_ok-rest.ensures)
 
 pub returns-clause-small : goal.returns-clause-small
 returns-clause-small c = in_reach c

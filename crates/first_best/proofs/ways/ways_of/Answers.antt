@@ -15,10 +15,9 @@ loop-j-preserved c =
           (subst (λ (l : List ℕ). WaysUpto c.args.node nodes (j + 1) l) (sym w.in_ok-push.ensures.items)
           (one_way _ nodes j _ c.loop-j.invariant leads))
       | else-leads_to w ↦
-          let none = λ (l : LeadsTo c.args.node (node_at nodes j)).
-          (let t : c.leads_to.result ≡ true = c.leads_to.ensures.1
-          (subst (LeadsTo c.args.node) (sym c.node.ensures) l) in let f = w.if-leads_to.false in let x : ⊥ =
-          cc in x) in
+          let none =
+          λ (l : LeadsTo c.args.node (node_at nodes j)). (let t : c.leads_to.result ≡ true = c.leads_to.ensures.1
+          (subst (LeadsTo c.args.node) (sym c.node.ensures) l) in let f = w.if-leads_to.false in let x : ⊥ = cc in x) in
           subst (λ v. WaysUpto c.args.node nodes (j + 1) v.items) (sym w.ways-is)
           (no_way _ nodes j _ c.loop-j.invariant none)
     ]

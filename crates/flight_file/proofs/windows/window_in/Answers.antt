@@ -1,5 +1,5 @@
 -- A part with two marks or more is no window.
-use Rattle.std.proofs.Common.{sym}
+use Rattle.std.proofs.Common.{arith}
 use Rattle.flight_file.specs.Windows.{window_in}
 use Rattle.texts.specs.shared.Cuts.{has_part}
 use Rattle.flight_file.proofs.Parts.{too_many}
@@ -7,8 +7,4 @@ use Rattle.flight_file.proofs.windows.window_in.Goals as goal
 
 pub returns-in-Some-more-clause-value : goal.returns-in-Some-more-clause-value
 unfolding window_in
-returns-in-Some-more-clause-value c =
-    let first = rw c.in-Some.is at c.first_part.ensures.value in
-    let second = rw c.in-Some-more.is at c.first_part-2.ensures.value in
-    rw (first, second) (sym (too_many c.args.number c.first_part.result.0.now c.first_part-2.result.0.now _
-    (has_part 45 c.in-Some-more.field-0.now)))
+returns-in-Some-more-clause-value c = grind (arith, too_many, has_part)

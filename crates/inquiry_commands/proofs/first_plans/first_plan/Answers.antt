@@ -6,9 +6,8 @@ first_schedule-requires-clause-value c =
     let s = c.args.sequencer.now in
     let laws = c.problem_stands_for_situation.ensures in
     rw (c.value-value.ensures, c.problem-problem.ensures.value)
-    (shown_least laws.feasible laws.every laws.objectives s.state s.problem
-    c.problem-problem.ensures.sound.situation c.problem-problem.ensures.problem c.plan.ensures.shown
-    c.in-Some.shown.now c.in-Some.ensures.plan)
+    (shown_least laws.feasible laws.every laws.objectives s.state s.problem c.problem-problem.ensures.sound.situation
+    c.problem-problem.ensures.problem c.plan.ensures.shown c.in-Some.shown.now c.in-Some.ensures.plan)
 
 pub returns-in_ok-plan-in-Some-clause-first : goal.returns-in_ok-plan-in-Some-clause-first
 returns-in_ok-plan-in-Some-clause-first c =

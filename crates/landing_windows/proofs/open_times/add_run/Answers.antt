@@ -6,12 +6,10 @@ use Rattle.landing_windows.proofs.open_times.add_run.Goals.{in_default}
 use Rattle.landing_windows.proofs.open_times.add_run.Goals as goal
 
 pub returns-then-last-first : goal.returns-then-last-first
-returns-then-last-first c = none_more _ _ _ c.requires.maximal c.requires.before c.if-last-first.true
+returns-then-last-first c = search (none_more)
 
 pub overflow_add-end : goal.overflow_add-end
-overflow_add-end c =
-    let ends = ends_before _ _ _ (rw c.in-Some.ensures.items at c.requires.before) in
-    omega arith
+overflow_add-end c = grind (arith, ends_before)
 
 pub returns : goal.returns
 returns c =

@@ -1,11 +1,10 @@
 -- One closure more: it is shut at its first second from `start` on, and no earlier one.
-use Rattle.std.proofs.Common.{rules, tests, ◌≡◌, ◌++◌, ◌∷◌, [], ℕ, List, max, min, arith, if◌then◌else◌, subst, sym}
+use Rattle.std.proofs.lemmas.Grind.{common_steps}
+use Rattle.std.proofs.Common.{rules, tests, ◌≡◌, ◌++◌, ◌∷◌, [], ℕ, List, max, min, arith, if◌then◌else◌, subst}
 use Rattle.std.specs.Prelude.{nat_lt}
 use Rattle.std.proofs.iter.Yields.{fronts}
 use Rattle.std.proofs.lemmas.Fn.{fold_over, slice_gives}
-use Rattle.std.proofs.lemmas.List.Folds.{list_any-append}
 use Rattle.landing_rules.specs.Flights.{Span}
-use Rattle.landing_rules.specs.Rules.{is_shut}
 use Rattle.landing_windows.specs.Spans.{IsFirstShut}
 use Rattle.landing_windows.proofs.search.first_shut.Goals as goal
 
@@ -14,13 +13,7 @@ earlier_of start least x = if nat_lt (max start x.0) x.1 then min (max start x.0
 
 one_more : (start most : ℕ) (xs : List Span) (least : ℕ) (x : Span) (next : ℕ) → next ≡ earlier_of start least x
     → IsFirstShut xs start most least → IsFirstShut (xs ++ (x ∷ [])) start most next
-one_more start most xs least x next is h = subst (IsFirstShut (xs ++ (x ∷ [])) start most) (sym is) (record {
-  after = let a = h.after in grind arith;
-  within = let a = h.within in grind arith;
-  least = λ u from below. let both = list_any-append (is_shut u) xs (x ∷ []) in let a = h.least u from in grind arith;
-  shut = λ below. let both = list_any-append (is_shut (earlier_of start least x)) xs (x ∷ []) in let a =
-      h.shut in let b = h.within in grind arith;
-})
+one_more start most xs least x next is h = grind (arith, common_steps)
 
 pub returns : goal.returns
 returns c =

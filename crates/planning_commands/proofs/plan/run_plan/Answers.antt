@@ -2,5 +2,4 @@ use Rattle.openings.specs.shared.Finished.{finished}
 use Rattle.planning_commands.proofs.plan.run_plan.Goals as goal
 
 pub returns : goal.returns
-returns g c =
-    finished _ _ _ _ _ _ c.report_files-report.ensures c.print_report.ensures
+returns g c = finished _ _ _ _ _ _ c.report_files-report.ensures c.print_report.ensures

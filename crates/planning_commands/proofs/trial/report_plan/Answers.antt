@@ -8,7 +8,6 @@ returns g c =
       text = printed (trial_text c.args.n c.args.k c.args.nodes) c.new-text.result.items c.trial_summary.new.into.items
           _ _ _ _
           c.in_ok-trial_summary.ensures.ok c.new-text.ensures.items c.objective.ensures c.plan-plan.ensures.plan;
-      answer = answers _ _ c.plan-plan.result c.args.sequencer.now.state.plan c.is_some.result
-          c.answer-answer.result c.answer-answer.ensures c.is_some.ensures
-          c.plan-plan.ensures.plan;
+      answer = answers _ _ c.plan-plan.result c.args.sequencer.now.state.plan
+          c.is_some.result c.answer-answer.result c.answer-answer.ensures c.is_some.ensures c.plan-plan.ensures.plan;
     }

@@ -7,13 +7,11 @@ use Rattle.planning_commands.proofs.Summed.{stops_short, sums}
 use Rattle.planning_commands.proofs.trial.report_traffic.Goals as goal
 
 pub returns : goal.returns
-returns g c =
-    sums c.args.traffic c.args.n c.args.k c.in_ok-begun.begun.1 c.into_parts-aerodrome.result.0
-    c.into_parts-aerodrome.result.1.items
+returns g c = sums c.args.traffic
+    c.args.n c.args.k c.in_ok-begun.begun.1 c.into_parts-aerodrome.result.0 c.into_parts-aerodrome.result.1.items
     c.in_ok-begun.begun.0 c.in_ok-report.report.text.items c.in_ok-report.report.answer
-    c.into_parts-aerodrome.ensures.aerodrome c.into_parts-aerodrome.ensures.flights
-    c.in_ok-begun.ensures.opened c.in_ok-begun.ensures.planned c.in_ok-report.ensures.text c.in_ok-report.ensures.answer
-    c.requires.lands
+    c.into_parts-aerodrome.ensures.aerodrome c.into_parts-aerodrome.ensures.flights c.in_ok-begun.ensures.opened
+    c.in_ok-begun.ensures.planned c.in_ok-report.ensures.text c.in_ok-report.ensures.answer c.requires.lands
 
 pub returns-in_err-begun : goal.returns-in_err-begun
 returns-in_err-begun g c =

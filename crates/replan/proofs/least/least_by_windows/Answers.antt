@@ -4,8 +4,7 @@ use Rattle.replan.proofs.least.least_by_windows.Goals as goal
 
 pub loop-reached-init : goal.loop-reached-init
 loop-reached-init g c =
-    let s = c.in_ok-last.ensures in
-    (s.held, s.number, λ whole. absurd (false≢true (rw s.unsaid at whole)))
+    let s = c.in_ok-last.ensures in (s.held, s.number, λ whole. absurd (false≢true (rw s.unsaid at whole)))
 
 pub advance-requires : goal.advance-requires
 advance-requires g c =

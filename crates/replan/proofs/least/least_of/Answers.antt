@@ -29,6 +29,5 @@ returns g c =
     rw (← c.last.view_is) at c.requires.held in
     let inside = c.in_ok-place.ensures.0 in
     let best = least_is_best _ (well_formed_planned _ c.head-well_formed.ensures.well_formed) _ _
-    (rw (← c.last.view_is) at c.requires.stage) h _ c.in_ok-place.ensures (list_some _ _ _ h.held _
-    (omega arith)) in
+    (rw (← c.last.view_is) at c.requires.stage) h _ c.in_ok-place.ensures (list_some _ _ _ h.held _ (omega arith)) in
     (best.0, best.1, rw c.value_there.ensures best.2)

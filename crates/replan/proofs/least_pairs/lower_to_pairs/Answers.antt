@@ -1,3 +1,4 @@
+use Rattle.std.proofs.lemmas.Grind.{common_steps}
 use Rattle.std.proofs.Common.{◌≡◌, ◌<◌, length, arith, ap, ap₂, ◌∙◌}
 use Rattle.landing_rules.specs.Rules.{last_second}
 use Rattle.cps_network.specs.Pairs.{list_at, pair_at}
@@ -7,7 +8,6 @@ use Rattle.replan.proofs.least_pairs.lower_to_pairs.Goals as goal
 
 pub loop-i-preserved : goal.loop-i-preserved
 loop-i-preserved c =
-    let lists = c.args.labels.now.lists in
     let n = c.args.nodes.now in
     let i = c.loop-i.i in
     let least = c.loop-i.least in
@@ -17,19 +17,13 @@ loop-i-preserved c =
     let place = told_at n.places i in
     let same : told_at c.places-places.result.now i ≡ place = ap (λ xs. told_at xs i) c.places-places.ensures in
     let all = c.loop-i.invariant.0.one_each in
-    let value : c.lesser.result ≡ lesser (pair_at least place) (extremes (list_at lists i)) = c.lesser.ensures
+    let value : c.lesser.result ≡ lesser (pair_at least place) (extremes (list_at c.args.labels.now.lists i)) =
+    c.lesser.ensures
     ∙ ap₂ lesser (ap (pair_at least) same) c.extremes.ensures.value in
-    let more = one_least lists n.places n.firsts i least c.loop-i.invariant.0 lt within in
+    let more = one_least c.args.labels.now.lists n.places n.firsts i least c.loop-i.invariant.0 lt within in
     let is = ap (λ q. q.0) value in
-    let days = c.loop-i.invariant.1 place in (
-      rw same (rw value more),
-      days_set least _ _ last_second c.loop-i.invariant.1 (omega arith),
-    )
+    let days = c.loop-i.invariant.1 place in
+    (rw same (rw value more), days_set least _ _ last_second c.loop-i.invariant.1 (omega arith))
 
 pub returns-clause-least : goal.returns-clause-least
-returns-clause-least c =
-    let lists = c.args.labels.now.lists in
-    let n = c.args.nodes.now in
-    let long = ap (λ xs. length xs) c.places-places.ensures in
-    let end : c.loop-i.i ≡ length n.places = omega arith in
-    rw end at c.loop-i.invariant.0
+returns-clause-least c = grind (arith, common_steps)

@@ -8,8 +8,7 @@ use Rattle.replan.proofs.plan.schedule_of.Goals as goal
 
 pub least_place-requires : goal.least_place-requires
 least_place-requires g c =
-    (last_read _ _ c.requires.held
-    (omega arith) _ _ _ c.len-n.ensures.value c.last.view_is c.index-kept-n.is).some
+    (last_read _ _ c.requires.held (omega arith) _ _ _ c.len-n.ensures.value c.last.view_is c.index-kept-n.is).some
 
 pub returns-in-None : goal.returns-in-None
 returns-in-None g c =
@@ -53,5 +52,4 @@ returns-in_ok-order-in-Some g c =
     let long : length c.retime-is_landed.new.into ≡ length c.args.problem.now.flights = c.if-prove.ensures.room
     ∙ ap length c.in_ok-schedule.ensures ∙ length-replicate _ 0 ∙ c.len-n.ensures.value in
     plan_best _ planned _ _ room lands _ long (c.if-prove.ensures.earliest refl) (c.if-prove.ensures.least refl)
-    (rw l.is at (no_more _ planned _ _ l.number l.held
-    _ c.in-Some.ensures))
+    (rw l.is at (no_more _ planned _ _ l.number l.held _ c.in-Some.ensures))

@@ -18,8 +18,7 @@ stage_again-requires g c =
 pub returns-clause-number : goal.returns-clause-number
 returns-clause-number g c =
     let lt : length c.args.kept.now - 1 < length c.args.kept.now = omega arith in
-    let number = (held_at _ _ c.requires.held _ _
-    (read_stage _ _ _ _ c.last.view_is c.index-kept-number.is lt) lt).1 in
+    let number = (held_at _ _ c.requires.held _ _ (read_stage _ _ _ _ c.last.view_is c.index-kept-number.is lt) lt).1 in
     omega (arith, number, c.in_ok-stage.ensures.number, c.requires.some)
 
 pub returns-clause-exact : goal.returns-clause-exact

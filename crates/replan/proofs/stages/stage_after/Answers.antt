@@ -1,7 +1,6 @@
-use Rattle.std.proofs.Common.{◌<◌, rules, arith}
+use Rattle.std.proofs.Common.{rules, arith}
 use Rattle.replan.proofs.stages.stage_after.Goals as goal
 
 pub next_stage_again-requires : goal.next_stage_again-requires
 next_stage_again-requires g c =
-    let lt : c.args.earlier.now.0 < c.args.before.now.0 = omega arith in
-    (search rules, (c.requires.width, (c.requires.stage, c.requires.whole c.if-is_whole.true lt)))
+    (search rules, (c.requires.width, (c.requires.stage, c.requires.whole c.if-is_whole.true (omega arith))))

@@ -24,8 +24,7 @@ returns-in_err-steps g c =
     let p = err_from_is_err_and c.from_residual-in_err-steps.result c.from_residual-in_err-steps.ensures.1 in
     rw (p.1, p.2) (stops_after c.args.sequencer.now _ c.args.opening c.problem.ensures.problem c.requires.opened
     (opening_few c.args.opening c.problem.ensures.value c.requires.opened c.due_is_small.ensures)
-    c.in_err-steps.field-0.0 c.plan_events.new.sequencer _ _ _
-    c.in_ok-open.ensures c.in_err-steps.ensures)
+    c.in_err-steps.field-0.0 c.plan_events.new.sequencer _ _ _ c.in_ok-open.ensures c.in_err-steps.ensures)
 
 pub overflow_add-opening : goal.overflow_add-opening
 overflow_add-opening g c =
@@ -44,8 +43,7 @@ returns-in_err-close g c =
 pub returns : goal.returns
 returns g c = (
   c.is_planned.ensures,
-  ends_whole c.args.sequencer.now _ c.args.opening c.problem.ensures.problem c.requires.opened
-      (opening_few c.args.opening c.problem.ensures.value c.requires.opened c.due_is_small.ensures)
-      c.plan_events.new.sequencer c.in_ok-steps.steps _ _ _ _
-      c.in_ok-open.ensures c.in_ok-steps.ensures c.in_ok-close.ensures,
+  ends_whole c.args.sequencer.now _ c.args.opening c.problem.ensures.problem c.requires.opened (opening_few
+      c.args.opening c.problem.ensures.value c.requires.opened c.due_is_small.ensures) c.plan_events.new.sequencer
+      c.in_ok-steps.steps _ _ _ _ c.in_ok-open.ensures c.in_ok-steps.ensures c.in_ok-close.ensures,
 )

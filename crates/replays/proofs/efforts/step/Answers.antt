@@ -17,7 +17,6 @@ returns-in_err-put-in-Err g c =
     let p = err_from_is_err_and c.from_residual-in_err-put-in-Err.result c.from_residual-in_err-put-in-Err.ensures.1 in
     rw (p.1, p.2) (
       0,
-      refused_step c.in-Err.refusal _ _ _ _
-          (WrotePart 0 _ _ _) c.as_slice-in-Err.result.now other c.in-Err.ensures (c.as_slice-in-Err.ensures.value
-          ∙ c.in_ok-text-in-Err.ensures) (search rules),
+      refused_step c.in-Err.refusal _ _ _ _ (WrotePart 0 _ _ _) c.as_slice-in-Err.result.now other c.in-Err.ensures
+          (c.as_slice-in-Err.ensures.value ∙ c.in_ok-text-in-Err.ensures) (search rules),
     )

@@ -43,6 +43,4 @@ returns g c =
     let none : map event_of (drop c.loop-i.i c.args.events.now) ≡ [] =
     at_drop_all (map event_of) c.args.events.now c.loop-i.i (omega (arith, c.loop-i-test.false, c.loop-i.auto)) in
     let planned : c.is_some.result ≡ is_some c.loop-i.sequencer.state.plan = search rules in
-    record {
-      outcome = ends_well _ c.loop-i.sequencer.state _ _ _ _ _ _ c.loop-i.invariant none planned;
-    }
+    record { outcome = ends_well _ c.loop-i.sequencer.state _ _ _ _ _ _ c.loop-i.invariant none planned }

@@ -12,6 +12,5 @@ sum-requires-clause-fits c = fits_from_length _ _ most_flights (2 ^ 64)
     (omega arith) (λ x r q k. search rules)
 
 pub returns : goal.returns
-returns c = sum_by_from_yields_List delay_of _ _ _ c.sum.ensures.ran
-    (YieldsList-from_map _ delay_of (YieldsList-from_slice c.args.flights.now (cc)) c.map.ensures.closure
-    (λ x r q k. search rules))
+returns c = sum_by_from_yields_List delay_of _ _ _ c.sum.ensures.ran (YieldsList-from_map _ delay_of
+    (YieldsList-from_slice c.args.flights.now (cc)) c.map.ensures.closure (λ x r q k. search rules))

@@ -6,7 +6,6 @@ use Rattle.sequencer.specs.Frozen.{latest, later_of}
 use Rattle.sequencer.proofs.frozen.latest.Goals as goal
 
 pub returns : goal.returns
-returns c =
-    fold_from_yields_List _ (λ found a. later_of a found) None _ c.fold.ensures.ran
+returns c = fold_from_yields_List _ (λ found a. later_of a found) None _ c.fold.ensures.ran
     (YieldsList-from_rev_slice c.args.flights.now (cc)) (λ found x r q k. search rules)
     ∙ fold_from_back (λ found a. later_of a found) None latest refl (λ x xs. refl) c.args.flights.now

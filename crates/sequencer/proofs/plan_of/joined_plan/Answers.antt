@@ -16,6 +16,5 @@ plan_of-requires-clause-feasible c = c.problem_stands_for_situation.ensures.feas
     c.args.problem.now c.args.schedule.now c.requires.sound c.requires.problem c.requires.feasible
 
 pub plan_of-requires-clause-value : goal.plan_of-requires-clause-value
-plan_of-requires-clause-value c = c.value_of-value.ensures
-    ∙ sym (c.problem_stands_for_situation.ensures.objectives c.args.situation.now c.args.problem.now
-    c.args.schedule.now c.requires.sound c.requires.problem c.requires.feasible)
+plan_of-requires-clause-value c = c.value_of-value.ensures ∙ sym (c.problem_stands_for_situation.ensures.objectives
+    c.args.situation.now c.args.problem.now c.args.schedule.now c.requires.sound c.requires.problem c.requires.feasible)

@@ -25,12 +25,10 @@ loop-first-preserved c =
     (low, high) c.requires.next c.index-leader.ensures c.index-follower.ensures in
     let same = ap (λ a. lists c.index-follower.result.now.now.flight a.flight.callsign) c.leader.view_is in
     elim c.if-lists.branch [
-      | then-lists w ↦ rw w.pairs-is
-          (one_added all c.args.pairs.now c.loop-first.pairs w.add.new.self next first c.loop-first.invariant
-          (listed.1 (sym same ∙ sym c.lists.ensures ∙ w.if-lists.true)) w.add.ensures)
-      | else-lists w ↦ rw w.pairs-is
-          (none_more all c.args.pairs.now c.loop-first.pairs next first c.loop-first.invariant
-          (λ l. false≢true (sym w.if-lists.false ∙ c.lists.ensures ∙ same ∙ listed.0 l)))
+      | then-lists w ↦ rw w.pairs-is (one_added all c.args.pairs.now c.loop-first.pairs w.add.new.self
+          next first c.loop-first.invariant (listed.1 (sym same ∙ sym c.lists.ensures ∙ w.if-lists.true)) w.add.ensures)
+      | else-lists w ↦ rw w.pairs-is (none_more all c.args.pairs.now c.loop-first.pairs next
+          first c.loop-first.invariant (λ l. false≢true (sym w.if-lists.false ∙ c.lists.ensures ∙ same ∙ listed.0 l)))
     ]
 
 pub returns : goal.returns

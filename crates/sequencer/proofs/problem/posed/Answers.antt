@@ -17,10 +17,9 @@ pub ranked_of-requires : goal.ranked_of-requires
 ranked_of-requires c = rw c.flights-flights.ensures c.requires.sound.callsigns
 
 pub pairs_of-pairs-requires : goal.pairs_of-pairs-requires
-pairs_of-pairs-requires c =
-    few_ranked _ (λ a. a.now) _ c.requires.sound
-    (c.in_ok-waiting.ensures ∙ ap (map (λ p. p.active.now)) c.deref.ensures.value ∙ c.in_ok-ranked.ensures.flights
-    ∙ ap (λ l. by_rank (filter is_waiting l)) c.flights-flights.ensures)
+pairs_of-pairs-requires c = few_ranked _
+    (λ a. a.now) _ c.requires.sound (c.in_ok-waiting.ensures ∙ ap (map (λ p. p.active.now)) c.deref.ensures.value
+    ∙ c.in_ok-ranked.ensures.flights ∙ ap (λ l. by_rank (filter is_waiting l)) c.flights-flights.ensures)
 
 ranks : (c : In_ok-with_times) → map (λ a. a.now) c.in_ok-waiting.waiting.items ≡ by_rank (waiting c.args.situation.now)
 ranks c = c.in_ok-waiting.ensures ∙ ap (map (λ p. p.active.now)) c.deref.ensures.value
@@ -43,41 +42,36 @@ heads c = record {
 }
 
 pub build-requires : goal.build-requires
-build-requires c =
-    λ table. well_formed _ _ _ _ c.requires.sound (heads c) (zip c) (listed c) c.head-head.ensures.few_places
-    c.head-head.ensures.near
+build-requires c = λ table. well_formed _ _ _ _ c.requires.sound
+    (heads c) (zip c) (listed c) c.head-head.ensures.few_places c.head-head.ensures.near
 
 pub returns-clause-problem : goal.returns-clause-problem
 returns-clause-problem c =
     let d = (goal.at.returns-clause-problem c).In_ok-with_times in
-    rw c.build.ensures (posed _ _ _ _
-    c.requires.sound (heads d) (zip d) (listed d))
+    rw c.build.ensures (posed _ _ _ _ c.requires.sound (heads d) (zip d) (listed d))
 
 placed : (c : After-len) → ArePlacesByRank c.args.situation.now c.in_ok-places.places.items
-placed c =
-    by_rank_places c.args.situation.now (λ p. p.place) (λ p. p.active.now) c.in_ok-ranked.ranked.items _ _
-    c.flights-flights.ensures c.in_ok-ranked.ensures.flights c.in_ok-ranked.ensures.places
-    (c.in_ok-places.ensures ∙ ap (map (λ p. p.place)) c.deref-2.ensures.value)
+placed c = by_rank_places c.args.situation.now (λ p. p.place)
+    (λ p. p.active.now) c.in_ok-ranked.ranked.items _ _ c.flights-flights.ensures c.in_ok-ranked.ensures.flights
+    c.in_ok-ranked.ensures.places (c.in_ok-places.ensures ∙ ap (map (λ p. p.place)) c.deref-2.ensures.value)
 
 pub overflow_sub-flights : goal.overflow_sub-flights
-overflow_sub-flights c =
-    omega (
-      arith,
-      frozen_and_placed _ _ c.requires.sound (placed c),
-      ap (length {A = Active}) c.flights-flights.ensures,
-      c.in_ok-places.places.ok.0,
-      c.len.ensures,
-    )
+overflow_sub-flights c = omega (
+  arith,
+  frozen_and_placed _ _ c.requires.sound (placed c),
+  ap (length {A = Active}) c.flights-flights.ensures,
+  c.in_ok-places.places.ok.0,
+  c.len.ensures,
+)
 
 pub last_frozen-last-requires-clause-count : goal.last_frozen-last-requires-clause-count
-last_frozen-last-requires-clause-count c =
-    omega (
-      arith,
-      frozen_and_placed _ _ c.requires.sound (placed c),
-      ap (length {A = Active}) c.flights-flights.ensures,
-      c.in_ok-places.places.ok.0,
-      c.len.ensures,
-    )
+last_frozen-last-requires-clause-count c = omega (
+  arith,
+  frozen_and_placed _ _ c.requires.sound (placed c),
+  ap (length {A = Active}) c.flights-flights.ensures,
+  c.in_ok-places.places.ok.0,
+  c.len.ensures,
+)
 
 pub returns-clause-places : goal.returns-clause-places
 returns-clause-places c = placed (goal.at.returns-clause-places c).After-len

@@ -13,23 +13,8 @@ module _ (p q : Problem) (most : ℕ) (from_one : 1 ≤ most) (within : IsWithin
   agreed : (o : Option ℕ) → MatchOption o ((k : ℕ) → 2 ≤ k → k ≤ most → HaveSamePredecessors p q k → ⊥)
       (λ r. (2 ≤ r) × (r ≤ most) × HaveSamePredecessors p q r × ((k : ℕ) → r < k → k ≤ most
       → HaveSamePredecessors p q k → ⊥)) → IsFirstDifference p q (unwrap_or o 1)
-  agreed None none = record {
-    from_one = omega arith;
-    within = (omega arith, omega arith);
-    agree = λ more. absurd (omega (arith, more));
-    greatest = λ s w a. grind arith;
-  }
-  agreed (Some r) last = record {
-    from_one = (let two = last.0 in omega arith);
-    within = (let le = last.1 in let a = within.0 in omega arith, let le = last.1 in let a = within.1 in omega arith);
-    agree = λ more. record {
-      head = head;
-      flights = λ i lt. (let le = last.1 in flights i (omega arith));
-      predecessors =
-          last.2;
-    };
-    greatest = λ s w a. grind arith;
-  }
+  agreed None none = grind arith
+  agreed (Some r) last = grind arith
 
 told : (b c : Bool) (P : Type 0) → b ≡ c → IsTrue c ↔ P → IsTrue b ↔ P
 told b c P same is = subst (λ d. IsTrue d ↔ P) (sym same) is

@@ -6,17 +6,6 @@ use Rattle.cps_problem.proofs.problem.Problem.has_predecessor_from.Goals as goal
 
 pub returns : goal.returns
 returns c =
-    let any = any_in_range (λ i. IsTrue (must_precede c.args.self.now.pairs i c.args.j)) _ _ _ c.any.result
-    (λ x b q k. search (rules, tests)) c.any.ensures.ran in (
-      λ t. let x = any.0 t in (x.0, x.1, x.3),
-      λ h. any.1 (
-        h.0,
-        h.1,
-        omega (
-          arith,
-          c.len.ensures.value,
-          (c.len.ensures.well_formed.between_ranks h.0 c.args.j h.2),
-        ),
-        h.2,
-      ),
-    )
+    let any = any_in_range (λ i. IsTrue (must_precede c.args.self.now.pairs i c.args.j)) _ _ _ c.any.result (λ x b
+    q k. search (rules, tests)) c.any.ensures.ran in
+    grind arith

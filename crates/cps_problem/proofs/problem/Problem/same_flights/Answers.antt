@@ -1,4 +1,4 @@
-use Rattle.std.proofs.Common.{◌≡◌, ℕ, ◌+◌, ◌<◌, ◌≤◌, Option, Some, None, refl, arith, rules, tests}
+use Rattle.std.proofs.Common.{◌≡◌, ℕ, ◌+◌, ◌<◌, ◌≤◌, Option, refl, arith, rules, tests}
 use Rattle.std.specs.Prelude.{slice_get, unwrap_or, MatchOption}
 use Rattle.std.specs.Bool.{⊤}
 use Rattle.std.proofs.lemmas.Iterator.{first_from_Range}
@@ -13,8 +13,7 @@ same_below : (p q : Problem) (end : ℕ) (o : Option ℕ)
     → MatchOption o ((k : ℕ) → 1 ≤ k → k < end → IsSameAt p q k) (λ r. (1 ≤ r) × (r < end) × ⊤
     × ((k : ℕ) → 1 ≤ k → k < r → IsSameAt p q k))
     → (k : ℕ) → 1 ≤ k → k < unwrap_or o end → IsSameAt p q k
-same_below p q end None h = h
-same_below p q end (Some r) h = h.3
+same_below p q end o h = grind arith
 
 pub returns-clause-same : goal.returns-clause-same
 unfolding IsSameAt

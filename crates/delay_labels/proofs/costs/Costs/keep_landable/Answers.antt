@@ -1,4 +1,6 @@
-use Rattle.std.proofs.Common.{◌≡◌, ℕ, List, Bool, map, ap, sym, subst, ◌∙◌, length, Vec, Global}
+use Rattle.std.proofs.Common.{arith}
+use Rattle.std.proofs.lemmas.Grind.{common_steps}
+use Rattle.std.proofs.Common.{◌≡◌, ℕ, List, Bool, map, ap, sym, subst, ◌∙◌, length}
 use Rattle.std.specs.Prelude.{All, nat_lt}
 use Rattle.cps_theory.specs.Labels.{Pair}
 use Rattle.cps_network.specs.Compacted.{kept_where}
@@ -10,19 +12,14 @@ use Rattle.delay_labels.proofs.CompactLemmas.{parts_have, lists_kept, kept_costs
 use Rattle.delay_labels.proofs.costs.Costs.keep_landable.Goals as goal
 
 pub invariant_of-self : goal.invariant_of-self
-invariant_of-self g c = (
-  c.self.invariant.0,
-  subst (λ (v : Vec (ℕ × ℕ) Global). All (IsPart (length c.self.inside.pairs.items)) v.items)
-      (sym c.in_err-compact.ensures.unchanged.1) c.self.invariant.1,
-)
+invariant_of-self g c = grind (arith, common_steps)
 
 pub invariant_of-self-2 : goal.invariant_of-self-2
-invariant_of-self-2 g c =
-    let k = c.in_ok-compact.ensures.kept in (
-      c.self.invariant.0,
-      subst (All (IsPart (length c.self.inside.pairs.items))) (sym k.3)
-          (all_kept (IsPart (length c.self.inside.pairs.items)) k.0 c.self.inside.parts.items c.self.invariant.1),
-    )
+invariant_of-self-2 g c = let k = c.in_ok-compact.ensures.kept in (
+  c.self.invariant.0,
+  subst (All (IsPart (length c.self.inside.pairs.items))) (sym k.3)
+      (all_kept (IsPart (length c.self.inside.pairs.items)) k.0 c.self.inside.parts.items c.self.invariant.1),
+)
 
 pub returns-clause-windows : goal.returns-clause-windows
 returns-clause-windows g c =
@@ -45,8 +42,7 @@ returns-clause-lists g c =
     c.args.self.now k.3 are c.self.view_is
 
 pub returns-clause-landable : goal.returns-clause-landable
-returns-clause-landable g c = λ p each are.
-    holds_as (HoldsCosts p) c.args.stage.now.0 c.compact.new.self (known_of c.args.self.now c.args.stage.now.1)
+returns-clause-landable g c = λ p each are. holds_as
+    (HoldsCosts p) c.args.stage.now.0 c.compact.new.self (known_of c.args.self.now c.args.stage.now.1)
     (known_of c.args.self.now c.args.self.now) _ c.compact.ensures.number (returns-clause-windows g c)
-    (returns-clause-lists g c)
-    (kept_costs p c.args.stage.now.0 c.args.stage.now.1 c.args.self.now each are)
+    (returns-clause-lists g c) (kept_costs p c.args.stage.now.0 c.args.stage.now.1 c.args.self.now each are)

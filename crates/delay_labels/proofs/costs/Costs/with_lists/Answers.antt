@@ -14,10 +14,4 @@ invariant_of-result c =
     c.others.invariant.1
 
 pub returns : goal.returns
-returns c =
-    let begin : c.len-count.result ≡ length c.self.inside.pairs.items = search (rules, c.len-count.ensures) in
-    let put = c.in_ok-put_behind.ensures ∙ ap (λ (l : List (ℕ × ℕ)). c.self.inside.parts.items
-    ++ map (moved_by c.len-count.result) l) c.deref.ensures.value in
-    stored_behind c.self.inside.pairs.items c.others.inside.pairs.items c.append.new.self.items
-    c.self.inside.parts.items c.others.inside.parts.items c.put_behind.new.parts.items c.len-count.result
-    c.in_ok-append.ensures.items begin put c.self.invariant.1 c.args.self c.args.others c.self.view_is c.others.view_is
+returns c = search (rules, stored_behind)

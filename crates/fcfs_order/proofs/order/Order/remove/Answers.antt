@@ -1,4 +1,4 @@
-use Rattle.std.proofs.Common.{◌≡◌, ℕ, ◌≤◌, ◌<◌, List, length, get_or, refl, sym, ap, subst, ◌∙◌, arith}
+use Rattle.std.proofs.Common.{◌≡◌, ℕ, ◌≤◌, List, length, get_or, sym, ap, subst, ◌∙◌, arith}
 use Rattle.std.proofs.lemmas.Bool.{false≢true}
 use Rattle.std.specs.List.Sorted.{IsStrictlySortedBy}
 use Rattle.std.specs.Prelude.{Contains}
@@ -23,19 +23,7 @@ returns-in-Ok-clause-rest c =
     ∙ sym gone ∙ ap (without p) (c.deref.ensures.value ∙ c.self.view_is)
 
 pub returns-in-Ok-clause-found : goal.returns-in-Ok-clause-found
-returns-in-Ok-clause-found c =
-    let p : ℕ × List ℕ = (c.args.eta, c.args.callsign) in
-    let i : ℕ = c.in-Ok.place in
-    let e : c.deref.result.now ≡ c.args.self.now = c.deref.ensures.value ∙ c.self.view_is in
-    let at : first_come_cmp (get_or c.deref.result.now i p) p ≡ Equal = c.in-Ok.ensures.position p in (
-      λ _. (
-        i,
-        subst (λ (l : List (ℕ × List ℕ)). i < length l) e c.in-Ok.ensures.bound,
-        subst
-            (λ (l : List (ℕ × List ℕ)). get_or l i p ≡ p) e (found p c.deref.result.now i c.in-Ok.ensures.bound at),
-      ),
-      λ _. refl,
-    )
+returns-in-Ok-clause-found c = grind (arith, found)
 
 absent : (c : goal.In-Err) → Contains c.args.self.now (c.args.eta, c.args.callsign) → ⊥
 absent c =

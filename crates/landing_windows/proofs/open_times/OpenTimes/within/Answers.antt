@@ -4,27 +4,31 @@ use Rattle.std.proofs.lemmas.List.{take_rest}
 use Rattle.std.specs.Prelude.{◌&&◌}
 use Rattle.landing_windows.specs.Runs.{maximal_in_order}
 use Rattle.landing_windows.specs.Spans.{opens, AreSecondsOf}
-use Rattle.landing_windows.proofs.Sweep.{nothing_yet, one_done, other_done, flight_seconds}
+use Rattle.landing_windows.proofs.Sweep.{one_done, other_done, flight_seconds}
 use Rattle.landing_windows.proofs.open_times.OpenTimes.within.Goals as goal
 
 pub loop-windows_left-init : goal.loop-windows_left-init
-loop-windows_left-init c =
-    rw (c.new-spans.ensures.items, c.spans-windows_left.ensures.value, c.as_slice-open_left.ensures, ← c.self.view_is)
-    (nothing_yet _ _ c.spans-windows_left.ensures.in_order (maximal_in_order _ c.self.invariant))
+loop-windows_left-init c = search (rules, maximal_in_order)
 
 pub loop-windows_left-preserved-then-window-span : goal.loop-windows_left-preserved-then-window-span
 loop-windows_left-preserved-then-window-span c =
-    rw (take_rest c.loop-windows_left.windows_left.now 1)
-    (one_done _ _ _ _ _ _ _ c.loop-windows_left.invariant c.in-len1-up.len_at_least
-    c.in-len1-up-open_left.len_at_least
-    (rw (c.max.ensures, c.min.ensures) at c.in_ok-add_run.ensures) (omega arith))
+    grind (
+      arith,
+      take_rest c.loop-windows_left.windows_left.now 1,
+      one_done _ _ _ _ _ _ _
+          c.loop-windows_left.invariant c.in-len1-up.len_at_least c.in-len1-up-open_left.len_at_least (rw
+          (c.max.ensures, c.min.ensures) at c.in_ok-add_run.ensures) (omega arith),
+    )
 
 pub loop-windows_left-preserved : goal.loop-windows_left-preserved
 loop-windows_left-preserved c =
-    rw (take_rest c.loop-windows_left.open_left.now 1)
-    (other_done _ _ _ _ _ _ _ c.loop-windows_left.invariant c.in-len1-up.len_at_least
-    c.in-len1-up-open_left.len_at_least
-    (rw (c.max.ensures, c.min.ensures) at c.in_ok-add_run.ensures) c.if-window-span.false)
+    grind (
+      arith,
+      take_rest c.loop-windows_left.open_left.now 1,
+      other_done _ _ _ _ _ _ _
+          c.loop-windows_left.invariant c.in-len1-up.len_at_least c.in-len1-up-open_left.len_at_least (rw
+          (c.max.ensures, c.min.ensures) at c.in_ok-add_run.ensures) c.if-window-span.false,
+    )
 
 pub returns : goal.returns
 returns c =

@@ -6,14 +6,7 @@ use Rattle.plan_text.proofs.Kept.{of_lines, ends_first, first_lines, first_short
 use Rattle.plan_text.proofs.kept_text.KeptText.keep.Goals as goal
 
 pub overflow_add-end : goal.overflow_add-end
-overflow_add-end c =
-    let ls = c.self.inside.lines.items in
-    let end = c.end_of.ensures ∙ ap (λ l. length (of_lines (take c.args.count l))) c.deref.ensures.value in
-    let short = first_short ls c.args.count in
-    let all = ap (length {A = ℕ}) c.self.invariant.lines in
-    let behind = length_behind c.self.inside.head c.self.inside.text.items c.self.invariant.head in
-    let v = c.self.inside.text.ok.0 in
-    omega arith
+overflow_add-end c = grind (arith, first_short, length_behind)
 
 pub invariant_of-self : goal.invariant_of-self
 invariant_of-self c =

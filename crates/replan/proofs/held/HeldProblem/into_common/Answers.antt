@@ -1,4 +1,4 @@
-use Rattle.std.proofs.Common.{length, ap, ◌∙◌, arith, rules}
+use Rattle.std.proofs.Common.{ap, rules}
 use Rattle.std.proofs.lemmas.List.{length-take-le}
 use Rattle.cps_network.specs.WindowLaws.{WindowLaws}
 use Rattle.replan.specs.Held.{AreInCommon}
@@ -7,22 +7,15 @@ use Rattle.replan.proofs.held.HeldProblem.into_common.Goals as goal
 
 pub returns-clause-held : goal.returns-clause-held
 returns-clause-held g c =
-    let inside = c.self.inside in
     let held = c.self.invariant in
-    let common : AreInCommon inside.problem c.args.problem.now c.args.count =
+    let common : AreInCommon c.self.inside.problem c.args.problem.now c.args.count =
     rw (ap (λ h. h.problem) c.self.view_is) c.requires.common in
-    let few = few_in_common inside.problem _ _ _ common held.whole in
-    let laws : WindowLaws inside.problem g.row.W = search rules in
-    rw c.truncate.ensures.items (stages_in_common inside.problem _ g.row.W held.width_is laws
-    c.head-held_ranks.ensures.well_formed.between_ranks c.head-ranks.ensures.well_formed.between_ranks _ _ held.held
-    c.kept_stages.ensures.early
-    common c.requires.more few)
+    let few = few_in_common c.self.inside.problem _ _ _ common held.whole in
+    let laws : WindowLaws c.self.inside.problem g.row.W = search rules in
+    rw c.truncate.ensures.items
+    (stages_in_common
+    c.self.inside.problem _ g.row.W held.width_is laws c.head-held_ranks.ensures.well_formed.between_ranks
+    c.head-ranks.ensures.well_formed.between_ranks _ _ held.held c.kept_stages.ensures.early common c.requires.more few)
 
 pub returns-clause-count : goal.returns-clause-count
-returns-clause-count g c =
-    let inside = c.self.inside in
-    let common : AreInCommon inside.problem c.args.problem.now c.args.count =
-    rw (ap (λ h. h.problem) c.self.view_is) c.requires.common in
-    let few = few_in_common inside.problem _ _ _ common c.self.invariant.whole in
-    let long = ap length c.truncate.ensures.items ∙ length-take-le _ _ few in
-    omega arith
+returns-clause-count g c = search (rules, few_in_common, length-take-le)

@@ -19,9 +19,8 @@ loop-number-preserved g c =
     let end : c.loop-number.number + 1 - c.saturating_sub-first.result ≡ place + 1 = omega arith in (
       one_ahead _ stages _ place one c.loop-number.invariant.0 long items next,
       omega (arith, ap length items, length-append stages (one ∷ []), long, end),
-      ap (λ n. (hinted_at c.push-in-loop-number.new.self.items n).stage.0) end
-          ∙ ap (λ s. s.stage.0) (last_ahead stages _ one (place + 1) long items) ∙ c.in_ok-next.ensures.number
-          ∙ ap (λ s. s.0 + 1) at ∙ ap (λ n. n + 1) number,
+      ap (λ n. (hinted_at c.push-in-loop-number.new.self.items n).stage.0) end ∙ ap (λ s. s.stage.0) (last_ahead stages
+          _ one (place + 1) long items) ∙ c.in_ok-next.ensures.number ∙ ap (λ s. s.0 + 1) at ∙ ap (λ n. n + 1) number,
       ap (λ s. s.stage.1) (first_ahead stages _ one (omega arith) items) ∙ c.loop-number.invariant.3,
     )
 

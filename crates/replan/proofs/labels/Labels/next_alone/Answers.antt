@@ -5,10 +5,8 @@ use Rattle.replan.proofs.labels.Labels.next_alone.Goals as goal
 
 pub column_alone-requires : goal.column_alone-requires
 column_alone-requires g c =
-    let is : of_column c.in-OfColumn.labels ≡ c.args.self.now = sym (ap pairs_of c.in-OfColumn.is) ∙ c.self.view_is in (
-      search rules,
-      (c.requires.width, (column_held _ _ _ _ is c.requires.before, (c.requires.number, c.requires.next))),
-    )
+    let is : of_column c.in-OfColumn.labels ≡ c.args.self.now = sym (ap pairs_of c.in-OfColumn.is) ∙ c.self.view_is in
+    (search rules, (c.requires.width, (column_held _ _ _ _ is c.requires.before, (c.requires.number, c.requires.next))))
 
 pub returns-in_ok-left-in-OfColumn : goal.returns-in_ok-left-in-OfColumn
 returns-in_ok-left-in-OfColumn g c =

@@ -1,8 +1,7 @@
-use Rattle.std.proofs.Common.{◌≡◌, ◌+◌, rules, ap, sym, subst, ◌∙◌}
-use Rattle.cps_network.specs.Pairs.{HoldsCosts}
+use Rattle.std.proofs.Common.{◌≡◌, ◌+◌, rules, ap, sym, ◌∙◌}
 use Rattle.makespan_labels.specs.shared.LabelPairs.{label_of_undominated}
-use Rattle.replan.specs.Labels.{HoldsPairs, pairs_of}
-use Rattle.replan.proofs.LabelsLemmas.{of_column, of_costs, column_makespan, column_held, pair_given, node_given}
+use Rattle.replan.specs.Labels.{pairs_of}
+use Rattle.replan.proofs.LabelsLemmas.{of_column, column_makespan, column_held, pair_given, node_given}
 use Rattle.replan.proofs.LabelsLemmas.{column_gives}
 use Rattle.replan.proofs.labels.Labels.source.Goals as goal
 
@@ -31,19 +30,8 @@ source_of-requires g c =
     )
 
 pub source_pair-requires : goal.source_pair-requires
-source_pair-requires g c =
-    let is : of_costs c.in-OfCosts.costs ≡ c.args.self.now = sym (ap pairs_of c.in-OfCosts.is) ∙ c.self.view_is in
-    let held : HoldsCosts c.args.problem.now c.args.before.now c.in-OfCosts.costs =
-    (subst (HoldsPairs c.args.problem.now c.args.before.now) (sym is) c.requires.before).held in (
-      search rules,
-      (
-        search rules,
-        (c.requires.width, (held, pair_given _ c.prefix_laws.ensures.network _ _ _ c.requires.undominated _ held)),
-      ),
-    )
+source_pair-requires g c = search (rules, pair_given)
 
 pub returns-in-OfColumn : goal.returns-in-OfColumn
-returns-in-OfColumn g c =
-    let is : of_column c.in-OfColumn.column ≡ c.args.self.now = sym (ap pairs_of c.in-OfColumn.is) ∙ c.self.view_is in
-    column_gives _ c.prefix_laws.ensures.network _ _ _ c.requires.undominated _ _ is c.requires.before _
-    c.source_of.ensures.gives
+returns-in-OfColumn g c = column_gives _ c.prefix_laws.ensures.network _ _ _ c.requires.undominated _ _
+    (sym (ap pairs_of c.in-OfColumn.is) ∙ c.self.view_is) c.requires.before _ c.source_of.ensures.gives
