@@ -1,7 +1,8 @@
 -- How much attained pairs cost at most.
-use Rattle.std.proofs.lemmas.Grind.{common_steps}
 use Rattle.std.proofs.Common.{ℕ, ◌*◌, ◌≤◌, List, [], ◌∷◌, length, arith, le_trans}
+use Rattle.std.proofs.lemmas.Grind.{common_steps}
 use Rattle.std.specs.Prelude.{ℤ}
+use Rattle.cps_base.specs.Limits.{dearest_landing}
 use Rattle.cps_theory.specs.Separation.{Landing}
 use Rattle.cps_theory.specs.LandingTrail.{cost_of, latest_landing, ranks}
 use Rattle.cps_theory.specs.Labels.{Pair}
