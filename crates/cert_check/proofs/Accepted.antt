@@ -29,10 +29,10 @@ use Rattle.cert_check.proofs.Bounds.{none_below, none_at_all}
 use Rattle.cert_check.proofs.Sound.{are_its_landings, are_feasible, passed_low}
 
 pair_none : {A : Type 0} (f : ℕ → ℕ → A) (o : Option (ℕ × ℕ)) → with_pair f o ≡ None → o ≡ None
-pair_none x0 x1 x2 = grind (arith, common_steps)
+pair_none f o e = grind (arith, common_steps)
 
 unless_none : {A : Type 0} (b : Bool) (x : A) → cond b (Some x) None ≡ None → b ≡ false
-unless_none x0 x1 x2 = grind (arith, common_steps)
+unless_none b x e = grind (arith, common_steps)
 
 -- what the states leave
 record StatesHold (p : Problem) (c : Claim) (ss : List State) : Type 0 where
@@ -92,11 +92,11 @@ infeasible p ls ss h e t f =
 
 by_optimal : (c : Claim) (o : Option Reason) (v : ℕ) → verdict_by c o ≡ verdict.Optimal v
     → (c ≡ claim.Optimal v) × (o ≡ None)
-by_optimal x0 x1 x2 x3 = grind (arith, common_steps)
+by_optimal c o v e = grind (arith, common_steps)
 
 by_infeasible : (c : Claim) (o : Option Reason) → verdict_by c o ≡ verdict.Infeasible
     → (c ≡ claim.Infeasible) × (o ≡ None)
-by_infeasible x0 x1 x2 = grind (arith, common_steps)
+by_infeasible c o e = grind (arith, common_steps)
 
 pub judged_optimal : (p : Problem) (c : Cert) → IsWellFormed p → (v : ℕ) → verdict_of p c ≡ verdict.Optimal v
     → IsShownOptimal p c.landings v

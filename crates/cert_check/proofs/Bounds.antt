@@ -34,7 +34,7 @@ module _ (p : Problem) where
 
   -- what a landing keeps, a successor keeps
   ready_low : (l u r : ℕ) → ready p l u r ≤ next_from (ranked p) l u r
-  ready_low x0 x1 x2 = grind (arith, common_steps)
+  ready_low l u r = grind (arith, common_steps)
 
   landed_behind : (xs : List Landing) → Landed opens (next_from (ranked p)) xs → Landed opens (ready p) xs
   landed_behind [] h = tt

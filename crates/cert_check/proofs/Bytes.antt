@@ -4,7 +4,7 @@ use Rattle.std.proofs.Common.{◌≡◌, ◌≤◌, ℕ, Bool, cond, arith}
 use Rattle.std.specs.Int.{from_bool}
 
 pub byte : (b : Bool) → from_bool b ≡ cond b 1 0
-byte x0 = grind (arith, common_steps)
+byte b = grind (arith, common_steps)
 
 pub byte_low : (b : Bool) → cond {A = ℕ} b 1 0 ≤ 1
-byte_low x0 = grind (arith, common_steps)
+byte_low b = grind (arith, common_steps)

@@ -18,10 +18,10 @@ power_small (suc (suc (suc (suc (suc zero))))) h = omega arith
 power_small (suc (suc (suc (suc (suc (suc i)))))) h = absurd (omega arith)
 
 bit : (n : ℕ) (b : Bool) → (2 * n + cond b 1 0) % 2 == 1 ≡ b
-bit x0 x1 = grind (arith, common_steps)
+bit n b = grind (arith, common_steps)
 
 half : (n : ℕ) (b : Bool) → (2 * n + cond b 1 0) / 2 ≡ n
-half x0 x1 = grind (arith, common_steps)
+half n b = grind (arith, common_steps)
 
 -- one more digit before those from y on
 pub more_digits : (t : ℕ → Bool) (i y z n : ℕ) (b : Bool) → bits i n ≡ tests_from t z i → z ≡ suc y

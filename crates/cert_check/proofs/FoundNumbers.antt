@@ -17,7 +17,7 @@ numbers test (x ∷ xs) i = grind (arith, numbers test xs (i + 1))
 one_more : {Q : ℕ → ℕ → Type 0} (p m : Option ℕ) (end : ℕ) → IfSome p (λ i. i < end)
     → MatchOption p (m ≡ None) (λ i. IsSomeAnd m (Q i)) → ((i n : ℕ) → i < end → Q i n → n ≡ i + 1)
     → m ≡ option_map (λ n. n + 1) p
-one_more x0 x1 x2 x3 x4 x5 = grind (arith, common_steps)
+one_more p m end b h next = grind (arith, common_steps)
 
 pub number_found : {S : Type 0} {Q : ℕ → ℕ → Type 0} (test : S → Bool) (xs : List S) (p m : Option ℕ)
     → p ≡ position test xs → IfSome p (λ i. i < length xs) → MatchOption p (m ≡ None) (λ i. IsSomeAnd m (Q i))

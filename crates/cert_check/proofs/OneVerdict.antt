@@ -33,7 +33,7 @@ module _ (p : Problem) (xs : List ℕ) (same : must_precede xs ≡ must_precede 
   q = with_pairs p xs
 
   same_cost : (o : Objective) (t : Schedule) → list_cost o q t ≡ list_cost o p t
-  same_cost x0 x1 = grind (arith, common_steps)
+  same_cost o t = grind (arith, common_steps)
 
   -- what the landings break first, by that test and by their objective
   abbrev landing_by : ℕ → Landings → (ℕ → ℕ → Bool) → ℕ → Option Reason
@@ -52,10 +52,10 @@ module _ (p : Problem) (xs : List ℕ) (same : must_precede xs ≡ must_precede 
   same_landings v ls = ap₂ (landing_by v ls) same (same_cost p.objective (seconds p ls))
 
   same_claims : (c : Claim) (ls : Landings) → claim_reason q c ls ≡ claim_reason p c ls
-  same_claims x0 x1 = search (rules, same_landings)
+  same_claims c ls = search (rules, same_landings)
 
   same_final : (c : Claim) (ss : List State) → final_failure q c ss ≡ final_failure p c ss
-  same_final x0 x1 = grind (arith, common_steps)
+  same_final c ss = grind (arith, common_steps)
 
   -- which states fail first, by these rules
   abbrev state_by : List State → OrderRules → Option ℕ → Option Reason

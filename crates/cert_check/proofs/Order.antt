@@ -7,4 +7,4 @@ use Rattle.cps_theory.specs.CertificateClosure.{InNodeOrder}
 use Rattle.cert_check.specs.States.{node_of, pairs_of}
 
 pub in_node_order : (ss : List State) → AreAscending ss → InNodeOrder node_of pairs_of ss
-in_node_order x0 x1 = grind (arith, common_steps)
+in_node_order ss h = grind (arith, common_steps)

@@ -7,7 +7,7 @@ use Rattle.cps_theory.specs.Labels.{Pair, no_worse}
 use Rattle.certificate.specs.States.{rises}
 
 rest_rises : (p : Pair) (ps : List Pair) → rises (p ∷ ps) ≡ true → rises ps ≡ true
-rest_rises x0 x1 x2 = search (rules, and_parts)
+rest_rises p ps h = search (rules, and_parts)
 
 -- each later pair is later and cheaper
 behind : (p : Pair) (ps : List Pair) → rises (p ∷ ps) ≡ true → (k : ℕ) (d : Pair) → k < length ps
@@ -29,7 +29,7 @@ seconds_rise (p ∷ ps) h (suc i) zero d le lt = absurd (omega arith)
 seconds_rise (p ∷ ps) h (suc i) (suc j) d le lt = seconds_rise ps (rest_rises p ps h) i j d (omega arith) (omega arith)
 
 and_yes : (a b : Bool) → a ≡ true → a && b ≡ b
-and_yes x0 x1 x2 = cc
+and_yes a b e = cc
 
 -- where all are later, none is no worse
 pub all_later : (ps : List Pair) (q : Pair) → ((k : ℕ) (d : Pair) → k < length ps → leb (get_or ps k d).0 q.0 ≡ false)

@@ -12,7 +12,7 @@ use Rattle.cps_theory.specs.CertificateClosure.{permits_next}
 use Rattle.cps_theory.specs.laws.FirstFound.{from_none}
 
 pub none_is : {A : Type 0} (o : Option A) → is_none o ≡ true → o ≡ None
-none_is x0 x1 = grind (arith, common_steps)
+none_is o e = grind (arith, common_steps)
 
 module _ (g : OrderRules) where
   placed_by : (w : PatternNode) (x : ℕ) → is_placed_by_pattern g.most w x ≡ true → IsPlacedByPattern g w x
@@ -21,7 +21,7 @@ module _ (g : OrderRules) where
 
   by_placed : (w : PatternNode) (x : ℕ) → IsPlacedByPattern g w x → is_placed_by_pattern g.most w x ≡ true
   unfolding is_placed_by_pattern
-  by_placed x0 x1 x2 = search (rules, or_right)
+  by_placed w x given = search (rules, or_right)
 
   due_from : (w : PatternNode) (r : ℕ) → leaves_none_due g w r ≡ true → (x : ℕ) → 1 ≤ x → x + g.most ≡ suc w.0
       → (x ≡ r) ⊎ IsPlacedByPattern g w x

@@ -43,7 +43,7 @@ module _ (p : Problem) (well : IsWellFormed p) where
   -- callsigns tell the ranks apart
   lower_differs : (q r : ℕ) → IsRank (count p) q → IsRank (count p) r → q < r → name q ≢ name r
   unfolding name
-  lower_differs x0 x1 x2 x3 x4 = grind (arith, common_steps)
+  lower_differs q r a b lt = grind (arith, common_steps)
 
   differ : (q r : ℕ) → IsRank (count p) q → IsRank (count p) r → (q ≡ r → ⊥) → name q ≡ name r → ⊥
   differ q r a b ne e = search (rules, lower_differs)

@@ -22,13 +22,13 @@ use Rattle.cert_check.specs.Meaning.{AreItsLandings}
 -- ---- tests
 
 and_false : (a b : Bool) → a && b ≡ false → a ≡ true → b ≡ false
-and_false x0 x1 x2 x3 = cc
+and_false a b e p = cc
 
 pub map_none : {A B : Type 0} (f : A → B) (o : Option A) → option_map f o ≡ None → o ≡ None
-map_none x0 x1 x2 = grind (arith, common_steps)
+map_none f o e = grind (arith, common_steps)
 
 none_left : {A : Type 0} (o : Option A) → is_some o ≡ false → o ≡ None
-none_left x0 x1 = grind (arith, common_steps)
+none_left o e = grind (arith, common_steps)
 
 pair_none : (find : ℕ → Option ℕ) (x m : ℕ) → first_pair_from find x m ≡ None → (y : ℕ) → x ≤ y
     → y < x + m → find y ≡ None
@@ -107,7 +107,7 @@ module _ (p : Problem) (ls : Landings) where
 
 module _ (p : Problem) where
   pub passed_low : IsWellFormed p → (r : ℕ) → IsRank (count p) r → (flight p r).passed ≤ p.k
-  passed_low x0 x1 x2 = grind (arith, common_steps)
+  passed_low h given q = grind (arith, common_steps)
 
   pub sound_problem : IsWellFormed p → SoundProblem (ranked p)
   sound_problem h = search (rules, sound_ranked)

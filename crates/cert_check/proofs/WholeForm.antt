@@ -33,7 +33,7 @@ use Rattle.cert_check.proofs.WholeUnique.{ascending}
 -- ---- each state
 
 some_pair : (q : Pair) (ps : List Pair) → InPairs q ps → 1 ≤ length ps
-some_pair x0 x1 x2 = grind (arith, common_steps)
+some_pair q ps i = grind (arith, common_steps)
 
 module _ (p : Problem) (well : IsWellFormed p) where
   shape_of : (s : State) (xs : List Landing) → 1 ≤ s.stage → Legal (rules_of p) (ranks xs)

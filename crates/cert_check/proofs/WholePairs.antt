@@ -45,7 +45,7 @@ module _ (p : Problem) (s : State) (q : Pair) where
   opened : (xs : List Landing) → 1 ≤ s.stage → Landed (λ r u. (ranked p).is_open r u ≡ true) (next_from (ranked p)) xs
       → pattern_node (rules_of p) (ranks xs) ≡ node_of s
       → pair_of (cost_at p) xs ≡ q → (ranked p).is_open s.last q.0 ≡ true
-  opened x0 x1 x2 x3 x4 = grind (arith, common_steps)
+  opened xs begun landed at is = grind (arith, common_steps)
 
 pub pairs_open : PairsAreOpenLaw
 pairs_open p s q h i =

@@ -69,7 +69,7 @@ module _ (t : ℕ → Bool) where
   passing_more c d here lt = grind (arith, passing_on (suc c) (d - suc c))
 
 few_of : (k : ℕ) → k ≤ greatest_k → passing (is_of_state k) (8 * 2 ^ (2 * k)) ≡ most_nodes k
-few_of x0 x1 = grind (arith, common_steps)
+few_of k le = grind (arith, common_steps)
 
 -- ---- a state's number
 

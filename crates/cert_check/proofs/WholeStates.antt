@@ -126,12 +126,12 @@ module _ (p : Problem) (well : IsWellFormed p) where
       last_apart p.last (flight p (suc l)).category (flight p r).category in omega arith
 
   started : (l t r u : ℕ) → next_from (ranked p) l t r ≤ u → start_at p r ≤ u
-  started x0 x1 x2 x3 x4 = grind (arith, common_steps)
+  started l t r u le = grind (arith, common_steps)
 
   ready_after : (xs : List Landing) → Landed opens (next_from (ranked p)) xs → (r : ℕ)
       → ready p (latest_landing xs).0 (latest_landing xs).1 r ≡ next_from (ranked p) (latest_landing xs).0
       (latest_landing xs).1 r
-  ready_after x0 x1 x2 = search (rules, ready_behind)
+  ready_after xs h r = search (rules, ready_behind)
 
   ready_is : (w : PatternNode) (b : Pair) (r : ℕ) → Attains p w b → ready p w.2 b.0 r ≡ next_from (ranked p) w.2 b.0 r
   ready_is w b r a = search (rules, ready_after)

@@ -25,7 +25,7 @@ abbrev Before : State → State → Type 0
 Before s t = node_cmp (node_of s) (node_of t) ≡ Less
 
 less_of : (o : Ordering) → is_lt o ≡ true → o ≡ Less
-less_of x0 x1 = grind (arith, common_steps)
+less_of o e = grind (arith, common_steps)
 
 before_trans : (a b c : State) → Before a b → Before b c → Before a c
 before_trans a b c h k = node_total.trans (node_of a) (node_of b) (node_of c) h k

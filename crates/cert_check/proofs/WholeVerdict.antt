@@ -21,7 +21,7 @@ module _ (p : Problem) (well : IsWellFormed p) where
 
   final_none : (c : Claim) (ls : Landings) (ss : List State) → IsAnswered p c ls → AreWholeStates p ss
       → final_failure p c ss ≡ None
-  final_none x0 x1 x2 x3 x4 = search (rules, optimal_final, infeasible_final)
+  final_none c ls ss a h = search (rules, optimal_final, infeasible_final)
 
   states_pass : (c : Claim) (ls : Landings) (ss : List State) → IsAnswered p c ls → AreWholeStates p ss
       → state_reason p c ss ≡ None

@@ -17,8 +17,7 @@ module _ (p : Problem) (end : EndWithFlights p) (entries : EntriesKeepNodes p) (
   keep_all d one = elim (cases_lt (length p.flights) d.0) [
     | inl past ↦ record {
       attained = λ q e. absurd (let a = e.0 in omega arith);
-      covers =
-          λ q a. absurd (let b = end d q a in omega arith);
+      covers = λ q a. absurd (let b = end d q a in omega arith);
     }
     | inr low ↦
         let here = are d.0 one low in

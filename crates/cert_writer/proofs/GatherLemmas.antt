@@ -1,10 +1,10 @@
 -- One window more is gathered.
 use Rattle.std.proofs.Common.{rules, ◌≡◌, ℕ, zero, suc, ◌+◌, ◌*◌, ◌^◌, ◌<◌, ◌≤◌, ◌⊎◌, inl, inr, List, [], ◌∷◌, ◌++◌}
-use Rattle.std.proofs.Common.{length, set, Bool, Option, replicate, refl, sym, ap, ap₂, subst, ◌∙◌, arith}
+use Rattle.std.proofs.Common.{length, length-set, set, Bool, Option, replicate, refl, sym, ap, ap₂, subst, ◌∙◌, arith}
 use Rattle.std.proofs.lemmas.Grind.{common_steps}
 use Rattle.std.specs.Prelude.{ℤ, All}
 use Rattle.std.proofs.lemmas.Bool.{cases_eq}
-use Rattle.std.proofs.lemmas.List.{get_or_default}
+use Rattle.std.proofs.lemmas.List.{get_or_default, get_or-set_same, get_or-set_other}
 use Rattle.landing_rules.specs.Problem.{Problem}
 use Rattle.cps_theory.specs.LandingTrail.{cost_of, ranks}
 use Rattle.cps_theory.specs.Labels.{InPairs, NoWorse, Pair}
@@ -43,11 +43,8 @@ prefix_shape p (x ∷ rs) one legal =
 pub window_shape : (p : Problem) (stage : ℕ) (xs : List ℤ) (d : PatternNode) → 1 ≤ stage → IsLandable p stage xs
     → IsWindowOf p stage xs d → IsShaped p.k (length p.flights) d × (1 ≤ d.2)
 window_shape p stage xs d one l of =
-    let a = l.1 in grind (
-      arith,
-      prefix_shape p (ranks a.landings) (omega (arith, (ap (λ (n : Node). n.0) a.at), one))
-          a.legal,
-    )
+    let a = l.1 in grind
+    (arith, prefix_shape p (ranks a.landings) (omega (arith, (ap (λ (n : Node). n.0) a.at), one)) a.legal)
 
 pub window_node : (p : Problem) (stage : ℕ) (xs : List ℤ) (d e : PatternNode) → IsLandable p stage xs
     → IsWindowOf p stage xs d → IsWindowOf p stage xs e → d ≡ e
@@ -75,23 +72,6 @@ node_near p tell s lists h stage at one i k placed last lt kk told is =
     (place_landable p s lists h i lt) (window_here p tell s stage at i k placed last kk told is) in omega arith
 
 -- ---- lists in slots
-
-set_same : (xs : List (List Pair)) (i : ℕ) (y : List Pair) → i < length xs → list_at (set xs i y) i ≡ y
-set_same [] i y lt = search rules
-set_same (x ∷ xs) zero y lt = refl
-set_same (x ∷ xs) (suc i) y lt = search rules
-
-set_other : (xs : List (List Pair)) (i j : ℕ) (y : List Pair) → (j ≡ i → ⊥) → list_at (set xs i y) j ≡ list_at xs j
-set_other [] i j y ne = refl
-set_other (x ∷ xs) zero zero y ne = absurd (ne refl)
-set_other (x ∷ xs) zero (suc j) y ne = refl
-set_other (x ∷ xs) (suc i) zero y ne = refl
-set_other (x ∷ xs) (suc i) (suc j) y ne = search rules
-
-set_long : (xs : List (List Pair)) (i : ℕ) (y : List Pair) → length (set xs i y) ≡ length xs
-set_long [] i y = refl
-set_long (x ∷ xs) zero y = refl
-set_long (x ∷ xs) (suc i) y = search rules
 
 module _ (p : Problem) (stage : ℕ × List (List ℤ)) (lists : List (List Pair)) where
   module _ (h : HoldsCosts p stage lists) (count : ℕ) (within : count < length stage.1) (slots : List (List Pair))
@@ -127,10 +107,8 @@ module _ (p : Problem) (stage : ℕ × List (List ℤ)) (lists : List (List Pair
           (o.0, o.1, no_worse_trans o.0 c.0 q o.2 c.2)
     ]
 
-    covers_there : (other : ℕ) (d : PatternNode) (q : Pair) → (other ≡ slot → ⊥) → d.0 ≡ stage.0
-        → HasSlot p.k d other → IsEntryBefore p stage lists (count + 1) d q → (o : Pair)
-        × InPairs o (list_at slots other)
-        × NoWorse o q
+    covers_there : (other : ℕ) (d : PatternNode) (q : Pair) → (other ≡ slot → ⊥) → d.0 ≡ stage.0 → HasSlot p.k d other
+        → IsEntryBefore p stage lists (count + 1) d q → (o : Pair) × InPairs o (list_at slots other) × NoWorse o q
     covers_there other d q ne same it e = elim (cases_eq e.0.place count) [
       | inl this ↦
           let node = window_node p stage.0 (node_at stage.1 count) d here (place_landable p stage lists h count within)
@@ -141,29 +119,30 @@ module _ (p : Problem) (stage : ℕ × List (List ℤ)) (lists : List (List Pair
 
     pub more_gathered : AreGathered p stage lists (count + 1) (set slots slot list)
     more_gathered = record {
-      room = set_long slots slot list ∙ g.room;
+      room = length-set slots slot list ∙ g.room;
       found = λ s q i. elim (cases_eq s slot) [
-        | inl e ↦ subst (λ m. (d : PatternNode) × (d.0 ≡ stage.0) × HasSlot p.k d m
-            × IsEntryBefore p stage lists (count + 1) d q) (sym e)
-            (found_here q (subst (InPairs q) (ap (list_at (set slots slot list)) e ∙ set_same slots slot list lt) i))
-        | inr ne ↦ (let f = g.found s q (subst (InPairs q) (set_other slots slot s list ne) i) in
+        | inl e ↦ subst (λ m. (d : PatternNode)
+            × (d.0 ≡ stage.0) × HasSlot p.k d m × IsEntryBefore p stage lists (count + 1) d q) (sym e) (found_here q
+            (subst (InPairs q) (ap (list_at (set slots slot list)) e ∙ get_or-set_same slots slot list [] lt) i))
+        | inr ne ↦ (let f = g.found s q (subst (InPairs q) (get_or-set_other slots slot s list [] ne) i) in
             (f.0, f.1, f.2, weaker f.0 q f.3))
       ];
       covers = λ s d q same it e. elim (cases_eq s slot) [
         | inl f ↦
             let c = covers_here d q (slot_node p.k d here slot (same ∙ sym at) (subst (HasSlot p.k d) f it) has) e in (
               c.0,
-              subst (InPairs c.0) (sym (ap (list_at (set slots slot list)) f ∙ set_same slots slot list lt)) c.1,
+              subst (InPairs c.0)
+                  (sym (ap (list_at (set slots slot list)) f ∙ get_or-set_same slots slot list [] lt)) c.1,
               c.2,
             )
         | inr ne ↦
             let c = covers_there s d q ne same it e in
-            (c.0, subst (InPairs c.0) (sym (set_other slots slot s list ne)) c.1, c.2)
+            (c.0, subst (InPairs c.0) (sym (get_or-set_other slots slot s list [] ne)) c.1, c.2)
       ];
       in_range = λ s. elim (cases_eq s slot) [
-        | inl e ↦ subst (All IsPairInRange) (sym (ap (list_at (set slots slot list)) e ∙ set_same slots slot list lt))
-            (ranged (g.in_range slot))
-        | inr ne ↦ subst (All IsPairInRange) (sym (set_other slots slot s list ne)) (g.in_range s)
+        | inl e ↦ subst (All IsPairInRange) (sym
+            (ap (list_at (set slots slot list)) e ∙ get_or-set_same slots slot list [] lt)) (ranged (g.in_range slot))
+        | inr ne ↦ subst (All IsPairInRange) (sym (get_or-set_other slots slot s list [] ne)) (g.in_range s)
       ];
     }
 
@@ -178,8 +157,7 @@ slot_moves k stage xs ys slot one is = record {
 }
 
 pub one_slot_more : (k stage : ℕ) (list : List (List ℤ)) (firsts : List ℕ) (count : ℕ) (slots : List ℕ) (slot : ℕ)
-    → HaveSlots k stage list firsts count slots
-    → IsSlotOf k stage (node_at list (told_at firsts count)) slot
+    → HaveSlots k stage list firsts count slots → IsSlotOf k stage (node_at list (told_at firsts count)) slot
     → HaveSlots k stage list firsts (count + 1) (slots ++ slot ∷ [])
 one_slot_more k stage list firsts count slots slot h is = grind (arith, common_steps)
 
@@ -196,10 +174,6 @@ none_in : (n slot : ℕ) → list_at (replicate n []) slot ≡ []
 none_in zero slot = refl
 none_in (suc n) zero = refl
 none_in (suc n) (suc slot) = none_in n slot
-
-long_none : (n : ℕ) → length (replicate {A = List Pair} n []) ≡ n
-long_none zero = refl
-long_none (suc n) = ap suc (long_none n)
 
 pub no_earliest : (slots : List ℕ) (least : List Pair) (room : ℕ) → AreEarliest slots least room 0 (replicate room [])
 no_earliest slots least room = grind (arith, common_steps)
@@ -222,13 +196,13 @@ module _ (slots : List ℕ) (least : List Pair) (room count : ℕ) (pairs : List
 
   pub one_earliest : AreEarliest slots least room (count + 1) (set pairs slot list)
   one_earliest = record {
-    room_is = set_long pairs slot list ∙ m.room_is;
+    room_is = length-set pairs slot list ∙ m.room_is;
     found = λ s q i. elim (cases_eq s slot) [
       | inl e ↦ elim (into q (subst (InPairs q) (here s e) i)) [
         | inl old ↦ (let f = old_found q slot old in (f.0, f.1, f.2 ∙ sym e, f.3))
         | inr new ↦ (count, omega arith, sym e, new)
       ]
-      | inr ne ↦ old_found q s (subst (InPairs q) (set_other pairs slot s list ne) i)
+      | inr ne ↦ old_found q s (subst (InPairs q) (get_or-set_other pairs slot s list [] ne) i)
     ];
     covers = λ j lt. elim (cases_eq (told_at slots j) slot) [
       | inl e ↦ elim (cases_eq j count) [
@@ -236,26 +210,24 @@ module _ (slots : List ℕ) (least : List Pair) (room count : ℕ) (pairs : List
             let o = keeps (pair_at least count) (inr refl) in (
               o.0,
               subst (InPairs o.0) (sym (here (told_at slots j) e)) o.1,
-              subst
-                  (λ (n : ℕ). NoWorse o.0 (pair_at least n)) (sym this) o.2,
+              subst (λ (n : ℕ). NoWorse o.0 (pair_at least n)) (sym this) o.2,
             )
         | inr other ↦
             let c = m.covers j (omega (arith, lt, other)) in
             let o = keeps c.0 (inl (subst (λ (n : ℕ). InPairs c.0 (list_at pairs n)) e c.1)) in (
               o.0,
               subst (InPairs o.0) (sym (here (told_at slots j) e)) o.1,
-              no_worse_trans o.0 c.0
-                  (pair_at least j) o.2 c.2,
+              no_worse_trans o.0 c.0 (pair_at least j) o.2 c.2,
             )
       ]
       | inr ne ↦
           let less : j < count = before j lt ne in
           let c = m.covers j less in
-          (c.0, subst (InPairs c.0) (sym (set_other pairs slot (told_at slots j) list ne)) c.1, c.2)
+          (c.0, subst (InPairs c.0) (sym (get_or-set_other pairs slot (told_at slots j) list [] ne)) c.1, c.2)
     ];
     in_range = λ s. elim (cases_eq s slot) [
       | inl e ↦ subst (All IsPairInRange) (sym (here s e)) (ranged (m.in_range slot))
-      | inr ne ↦ subst (All IsPairInRange) (sym (set_other pairs slot s list ne)) (m.in_range s)
+      | inr ne ↦ subst (All IsPairInRange) (sym (get_or-set_other pairs slot s list [] ne)) (m.in_range s)
     ];
   }
     where
@@ -346,8 +318,7 @@ module _ (p : Problem) (tell : PlacedTellNodes p) (held : Option HeldProblem) (s
                 place = w.0;
                 within = w.1;
                 node = of_window w.0 w.1;
-                has =
-                    subst (λ (x : Pair). InPairs x (list_at all_lists w.0)) (sym f.3) w.3;
+                has = subst (λ (x : Pair). InPairs x (list_at all_lists w.0)) (sym f.3) w.3;
               },
               w.1,
             ),
@@ -364,15 +335,13 @@ module _ (p : Problem) (tell : PlacedTellNodes p) (held : Option HeldProblem) (s
           let c = m.covers j within in
           let pair : IsPairAt all_lists put.places j q = record {
             window = i;
-            within =
-                (let a = are.together.long in omega (arith, a, lt));
+            within = (let a = are.together.long in omega (arith, a, lt));
             of_node = refl;
             has = e.0.has;
           } in (
             c.0,
             subst (λ (n : ℕ). InPairs c.0 (list_at pairs n)) (sym at) c.1,
-            no_worse_trans c.0
-                (pair_at least j) q c.2 ((l.each j within).early q pair, (l.each j within).cheap q pair),
+            no_worse_trans c.0 (pair_at least j) q c.2 ((l.each j within).early q pair, (l.each j within).cheap q pair),
           );
       in_range = m.in_range;
     }

@@ -71,17 +71,15 @@ turned_more n j rest ones e =
     let whole : rest * 2 ^ j ≡ (rest / 2 * 2 + rest % 2) * 2 ^ j = ap (λ r. r * 2 ^ j) (omega arith) in
     let up : rest / 2 * 2 ^ suc j ≡ rest / 2 * (2 * 2 ^ j) = ap (λ m. rest / 2 * m) (pow-succ' 2 j) in omega arith
 
-turned_step : (n j rest ones : ℕ) → (n ≡ rest * 2 ^ j + number_of (bits j ones)) × (ones < 2 ^ j)
-    → (n ≡ rest / 2 * 2 ^ (j + 1) + number_of (bits (j + 1) (ones * 2 + rest % 2)))
-    × (ones * 2 + rest % 2 < 2 ^ (j + 1))
+turned_step : (n j rest ones : ℕ) → (n ≡ rest * 2 ^ j + number_of (bits j ones)) × (ones < 2 ^ j) →
+    (n ≡ rest / 2 * 2 ^ (j + 1) + number_of (bits (j + 1) (ones * 2 + rest % 2))) × (ones * 2 + rest % 2 < 2 ^ (j + 1))
 turned_step n j rest ones h = grind (arith, common_steps, turned_more)
 
 -- with nothing left, only zeros come behind
 zeros_behind : (d ones : ℕ) → reverse_bits_onto d 0 ones ≡ ones * 2 ^ d
 unfolding reverse_bits_onto
 zeros_behind zero ones = omega arith
-zeros_behind (suc d) ones =
-    zeros_behind d (ones * 2 + 0) ∙ (omega (arith, (ap (λ m. ones * m) (pow-succ' 2 d))))
+zeros_behind (suc d) ones = zeros_behind d (ones * 2 + 0) ∙ (omega (arith, (ap (λ m. ones * m) (pow-succ' 2 d))))
 
 -- the turned digits of a number are the high ones of its reversed bits
 turned_onto : (m d n j rest ones : ℕ) → (n ≡ rest * 2 ^ j + number_of (bits j ones)) × (ones < 2 ^ j) → rest < 2 ^ m
@@ -96,8 +94,7 @@ turned_onto (suc m) d n j rest ones h low =
     let t = turned_onto m d n (j + 1) (rest / 2) (ones * 2 + rest % 2) (turned_step n j rest ones h) (let e =
     pow-succ' 2 m in omega (arith, low, e)) in (
       t.0,
-      ap (λ i. reverse_bits_onto i rest ones) (let one : suc m + d ≡ suc (m + d) = omega arith in one)
-          ∙ t.1,
+      ap (λ i. reverse_bits_onto i rest ones) (let one : suc m + d ≡ suc (m + d) = omega arith in one) ∙ t.1,
       t.2 ∙ ap (λ i. number_of (bits i t.0)) e,
       subst (λ i. t.0 < 2 ^ i) e t.3,
     )
@@ -176,9 +173,8 @@ slot_from k stage last m ds o off e is low at few = record {
 -- ---- numbers
 
 pub one_node : (k : ℕ) (d e : PatternNode) (n : ℕ) → d.0 ≡ e.0 → HasNumber k d n → HasNumber k e n → d ≡ e
-one_node k d e n at a b =
-    node_is d.0 e.0 d.1 e.1 d.2 e.2 at (number_one d.1 e.1 (a.digits ∙ sym b.digits) (a.pattern ∙ sym b.pattern))
-    (let x = a.last in let y = b.last in omega (arith, at, x, y))
+one_node k d e n at a b = node_is d.0 e.0 d.1 e.1 d.2 e.2 at (number_one d.1 e.1
+    (a.digits ∙ sym b.digits) (a.pattern ∙ sym b.pattern)) (let x = a.last in let y = b.last in omega (arith, at, x, y))
 
 -- the slot of a number whose digits are turned
 pub number_slot : (k : ℕ) (d : PatternNode) (n ones : ℕ) → HasNumber k d n → number_of (bits (2 * k) ones) ≡ n / 8

@@ -79,9 +79,6 @@ module _ (p : Problem) (stages : ℕ → ℕ × List (List ℤ)) (lists : ℕ �
   entry_here : (d : PatternNode) (q : Pair) → d.0 ≡ stage → Entry d q → IsEntry p (stages stage) (lists stage) d q
   entry_here d q at e = search rules
 
-  here_entry : (d : PatternNode) (q : Pair) → d.0 ≡ stage → IsEntry p (stages stage) (lists stage) d q → Entry d q
-  here_entry d q at e = search rules
-
   shape_here : (d : PatternNode) (q : Pair) → IsEntry p (stages stage) (lists stage) d q
       → IsShaped p.k (length p.flights) d × (1 ≤ d.2)
   shape_here d q e = window_shape p (stages stage).0 (node_at (stages stage).1 e.place) d
@@ -134,9 +131,6 @@ module _ (p : Problem) (stages : ℕ → ℕ × List (List ℤ)) (lists : ℕ �
       -- the state that is written
       abbrev pub written : State
       written = record { stage = stage; pattern = bits (2 * p.k) ones; last = stage + number % 8 - p.k; pairs = best }
-
-      written_slot : HasSlot p.k (node_of written) slot
-      written_slot = search (rules, last_known)
 
       written_number : HasNumber p.k (node_of written) number
       written_number = search (rules, last_known, length_bits)

@@ -1,7 +1,7 @@
 -- What a text reads as prints back as the text.
 use Rattle.std.proofs.Common.{rules, ◌≡◌, ℕ, ◌<◌, ◌^◌, Bool, true, ltb, eqb, not, ◌&&◌, ◌||◌, List, [], ◌∷◌}
 use Rattle.std.proofs.Common.{◌++◌, length, get_or, map, Some, refl, arith}
-use Rattle.std.specs.Prelude.{◌==◌, codes, decimal, bytes_eq, option_map, option_and_then}
+use Rattle.std.specs.Prelude.{codes, decimal, bytes_eq, option_map, option_and_then}
 use Rattle.std.specs.List.{list_all, join_with_byte}
 use Rattle.std.specs.Char.{is_ascii_digit}
 use Rattle.std.specs.Str.{all_ascii_digits}
@@ -82,17 +82,10 @@ pairs_printed a (p ∷ ps) xs e =
 digits_printed : (text : List ℕ) → list_all is_digit text ≡ true → map digit_text (map digit_of text) ≡ text
 digits_printed [] e = refl
 digits_printed (b ∷ text) e = grind (arith, digits_printed text (and_parts (is_digit b) (list_all is_digit text) e).1)
-  where
-    go : (x y : Bool) → (b == 48) ≡ x → (b == 49) ≡ y → x || y ≡ true
-        → digit_text (digit_of b) ∷ map digit_text (map digit_of text) ≡ b ∷ map digit_text (map digit_of text)
-    go x y p q e = grind arith
 
 some_digits : (text : List ℕ) → are_pattern_digits text ≡ true → pattern_text (map digit_of text) ≡ text
 some_digits [] e = absurd cc
 some_digits (b ∷ text) e = search (rules, digits_printed)
-
-blank : pattern_text [] ≡ codes "-"
-blank = refl
 
 pub pattern_printed : (text : List ℕ) (ds : List Bool) → pattern_in text ≡ Some ds → pattern_text ds ≡ text
 unfolding pattern_in

@@ -74,8 +74,8 @@ body_parts (l ∷ ls) ss hl h =
       arith,
       common_steps,
       body_parts ls ss hl.2 h,
-      cut 10 (landing_text l) (landing_lines ls ++ state_lines
-          ss) (landing_lacks l hl.0 hl.1) refl,
+      cut 10 (landing_text l)
+          (landing_lines ls ++ state_lines ss) (landing_lacks l hl.0 hl.1) refl,
     )
 
 as_lines : (c : Claim) (ls : List (List ℕ × ℕ)) (ss : List State) (x : Cert)

@@ -1,5 +1,4 @@
 -- A whole certificate that is printed reads back.
-use Rattle.std.proofs.lemmas.Grind.{common_steps}
 use Rattle.std.proofs.Common.{rules, ◌≡◌, ℕ, suc, ◌+◌, ◌-◌, ◌≤◌, true, List, [], ◌∷◌, ◌++◌, length, map, Result, Ok}
 use Rattle.std.proofs.Common.{Err, refl, sym, subst, arith, append_assoc}
 use Rattle.std.proofs.lemmas.List.{append-nil}
@@ -23,9 +22,6 @@ more : (n : ℕ) (c : Claim) (b b' : Body) (line : List ℕ) (rest : Lines) → 
     → lines_in n c b line rest ≡ lines_all (n + 1) c b' rest
 unfolding lines_in
 more n c b b' line rest some e = grind arith
-
-has_last : (xs : Lines) (x : List ℕ) → 1 ≤ length (xs ++ x ∷ [])
-has_last xs x = grind (arith, common_steps)
 
 after_last : (pre : List State) (s : State) (ss : List State) → AreAscending (pre ++ s ∷ ss) → follows pre s ≡ true
 after_last [] s ss h = refl

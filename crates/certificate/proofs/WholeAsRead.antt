@@ -1,6 +1,6 @@
 -- A whole text that is read prints back as the text.
-use Rattle.std.proofs.Common.{rules, ◌≡◌, ℕ, ◌+◌, true, List, [], ◌∷◌, ◌++◌, length, Option, Some}
-use Rattle.std.proofs.Common.{None, Result, Ok, refl, sym, ap, ◌∙◌, arith, append_assoc}
+use Rattle.std.proofs.Common.{rules, ◌≡◌, ℕ, ◌+◌, true, List, [], ◌∷◌, ◌++◌, length, Some}
+use Rattle.std.proofs.Common.{Result, Ok, refl, sym, ap, ◌∙◌, arith, append_assoc}
 use Rattle.std.proofs.lemmas.Grind.{common_steps}
 use Rattle.std.specs.Prelude.{◌==◌, codes, bytes_eq, IfOk}
 use Rattle.std.specs.List.{join_with_byte}
@@ -10,7 +10,7 @@ use Rattle.certificate.specs.declared.fault.CertFault.{CertFault}
 use Rattle.certificate.specs.States.{State}
 use Rattle.texts.specs.Parts.{parts}
 use Rattle.certificate.specs.Lines.{claim_in}
-use Rattle.certificate.specs.Reading.{Cert, Body, line_in, lines_in, body_lines, body_behind, claim_behind}
+use Rattle.certificate.specs.Reading.{Cert, Body, line_in, lines_in, body_lines, claim_behind}
 use Rattle.certificate.specs.Reading.{certificate_by, certificate_of, memory_fault}
 use Rattle.certificate.specs.Spelling.{state_text, landing_text, claim_text, landing_lines, state_lines}
 use Rattle.certificate.specs.Spelling.{certificate_text}
@@ -68,14 +68,7 @@ prints_back bytes c e = head (parts 10 bytes) refl e
     claim : (first : List ℕ) (rest : List (List ℕ)) → bytes_eq first (codes "certificate 1") ≡ true
         → parts 10 bytes ≡ first ∷ rest → claim_behind rest ≡ Ok c → codes "certificate 1"
         ++ 10 ∷ (claim_text c.claim ++ 10 ∷ (landing_lines c.landings ++ state_lines c.states)) ≡ bytes
-    claim first [] is f e = absurd cc
-    claim first (second ∷ rest) is f e = by (claim_in second) refl e
-      where
-        by : (o : Option Claim) → claim_in second ≡ o → body_behind o rest ≡ Ok c
-            → codes "certificate 1" ++ 10 ∷ (claim_text c.claim
-            ++ 10 ∷ (landing_lines c.landings ++ state_lines c.states)) ≡ bytes
-        by None p e = absurd cc
-        by (Some v) p e = body first second v rest is p f e
+    claim first rest is f e = grind (arith, body)
 
     head : (lines : List (List ℕ)) → parts 10 bytes ≡ lines → certificate_by lines ≡ Ok c
         → codes "certificate 1" ++ 10 ∷ (claim_text c.claim

@@ -1,11 +1,11 @@
 -- Examples of landings: lists of ranks, separation, retiming, landing trails and pairs.
-use Rattle.std.proofs.Common.{◌≡◌, ℕ, ◌+◌, ◌-◌, ◌≤◌, inl, inr, List, [], ◌∷◌, false, Option, Some, ltb, max, refl, ap}
+use Rattle.std.proofs.Common.{◌≡◌, ℕ, ◌+◌, ◌-◌, ◌≤◌, inl, inr, List, [], ◌∷◌, false, Option, Some, ltb, max, refl}
 use Rattle.std.proofs.Common.{arith}
 use Rattle.cps_theory.specs.RankLists.{Distinct, In, IsRank, Ordered, above, below, numbers_from, of_rank, upto}
 use Rattle.cps_theory.specs.Separation.{Landing}
 use Rattle.cps_theory.specs.Retiming.{IsFirstOpen, NeverEarlier}
 use Rattle.cps_theory.specs.LandingTrail.{Landed, last_rank, latest_landing, pair_of, ranks}
-use Rattle.cps_theory.specs.Labels.{InPairs, NeverCheaper, NoWorse, Pair, next_pair, no_worse}
+use Rattle.cps_theory.specs.Labels.{InPairs, NeverCheaper, NoWorse, next_pair, no_worse}
 use Rattle.cps_theory.specs.UndominatedPairs.{Covers, InPairOrder, Staircase, add_pair, sweep}
 use Rattle.cps_theory.specs.laws.UndominatedPairs.{add_covers}
 

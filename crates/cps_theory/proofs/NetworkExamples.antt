@@ -1,10 +1,10 @@
 -- Examples of networks: what the nodes of two flights attain, and what the start keeps and completes where nobody
 -- waits.
-use Rattle.std.proofs.Common.{max, subst, ◌≤◌, ◌≡◌, ℕ, inl, inr, List, [], ◌∷◌, true, false, Option, Some, leb, zero-le}
-use Rattle.std.proofs.Common.{refl, sym, ap, arith}
+use Rattle.std.proofs.Common.{max, ◌≤◌, ◌≡◌, ℕ, inl, inr, List, [], ◌∷◌, true, false, Option, Some, leb, zero-le}
+use Rattle.std.proofs.Common.{refl, ap, arith}
 use Rattle.std.proofs.lemmas.Bool.{false≢true, leb-true}
 use Rattle.cps_theory.specs.RankLists.{IsRank}
-use Rattle.cps_theory.specs.Labels.{InPairs, Pair}
+use Rattle.cps_theory.specs.Labels.{InPairs}
 use Rattle.cps_theory.specs.LegalPrefix.{Legal}
 use Rattle.cps_theory.specs.Patterns.{PatternNode, PatternPermits, pattern_newest, pattern_node, pattern_push}
 use Rattle.cps_theory.specs.ClosedSets.{ClosedPairs}

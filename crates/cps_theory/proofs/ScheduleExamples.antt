@@ -1,6 +1,6 @@
 -- Examples of schedules: two flights that may land from 1000 on, 60 seconds apart, and their feasible, tight, best and
 -- first best schedules.
-use Rattle.std.proofs.Common.{◌≡◌, ◌≢◌, ℕ, zero, suc, ◌+◌, ◌-◌, ◌≤◌, inl, inr, [], ◌∷◌, true, Option, Some, leb, max}
+use Rattle.std.proofs.Common.{◌≡◌, ℕ, zero, suc, ◌-◌, [], ◌∷◌, Option, Some, leb, max}
 use Rattle.std.proofs.Common.{refl, arith}
 use Rattle.std.proofs.lemmas.Bool.{cases_lt, false≢true}
 use Rattle.cps_theory.specs.RankLists.{IsRank}

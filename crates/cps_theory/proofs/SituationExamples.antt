@@ -1,5 +1,5 @@
 -- Examples of situations: flights 7 and 9, of which 7 came first and 9 lands first.
-use Rattle.std.proofs.Common.{◌≡◌, ◌≢◌, ℕ, ◌+◌, ◌≤◌, inl, inr, [], ◌∷◌, true, false, cond, ltb, refl, sym, arith}
+use Rattle.std.proofs.Common.{◌≡◌, ℕ, inl, [], ◌∷◌, true, false, cond, ltb, refl, arith}
 use Rattle.std.proofs.lemmas.Bool.{cases_eq, le-ltb, ltb-false, false≢true, ltb-true, lt-ltb}
 use Rattle.std.proofs.lemmas.List.Sorted.{IsPermutation-refl}
 use Rattle.cps_theory.specs.RankLists.{In}

@@ -13,7 +13,7 @@ use Rattle.endings.specs.Loads.{Loads, StopsAt, FailsAt, IsTooLongAt, AsksForSom
 
 pub all-append : {X : Type 0} (P : X → Type 0) (xs : List X) (y : X) → AllByRecursion P xs
     → P y → AllByRecursion P (xs ++ y ∷ [])
-all-append x0 x1 x2 x3 x4 = grind (arith, common_steps)
+all-append P xs y all last = grind (arith, common_steps)
 
 -- the names up to the next one
 pub next_name : (names : List (String Global)) (i : ℕ) (s : String Global) (t : List ℕ) → i < length names
@@ -34,7 +34,7 @@ pub all_loaded : (old new : FolderState) (names : List (String Global)) (cs : Li
 all_loaded old new names cs i end l = grind (arith, common_steps)
 
 pub asked_unless : {A B C : Type 0} → A ⊎ (B × C) → (B → ⊥) → A
-asked_unless x0 x1 = grind arith
+asked_unless given never = grind arith
 
 pub loads_more : (old mid new : FolderState) (ns cs : List (List ℕ)) (i : ℕ) (name bytes : List ℕ) →
     Loads old mid (take i ns) cs → IsAfterLoad mid new → take (i + 1) ns ≡ take i ns ++ name ∷ [] →

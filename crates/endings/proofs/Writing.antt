@@ -61,4 +61,4 @@ says old new x y r is w = let P : List ℕ → Type 0 = λ l. Writes old new l r
 
 -- what the put of an ending's line says
 pub said : {T E : Type 0} (old new : SinkState) (x : List ℕ) (r : Result T E) → Writes old new x r → Says old new x
-said x0 x1 x2 x3 x4 = search rules
+said old new x r w = search rules

@@ -1,23 +1,23 @@
 -- No finding exactly where the block is clean.
-use Rattle.std.proofs.Common.{◌≡◌, ◌≢◌, ℕ, suc, ◌⊎◌, inl, inr, List, [], ◌∷◌, length, map, filter, cond, zero-le, arith}
+use Rattle.std.proofs.Common.{◌≡◌, ◌≢◌, ℕ, suc, inl, inr, List, [], ◌∷◌, length, map, filter, cond, zero-le, arith}
 use Rattle.std.proofs.Common.{refl, sym, ap, ap₂, subst, ◌∙◌}
-use Rattle.std.specs.Prelude.{option_map, find, All, AllPairs, Option, Some, None}
-use Rattle.std.specs.List.{list_any, cons_option}
+use Rattle.std.specs.Prelude.{find, All, AllPairs, Some}
+use Rattle.std.specs.List.{list_any}
 use Rattle.std.proofs.lemmas.Bool.{cases_eq, eqb-true, eq-eqb}
 use Rattle.std.proofs.lemmas.List.Sorted.{IsPermutation-sym}
 use Rattle.landing_rules.specs.declared.objective.Objective.{Objective}
 use Rattle.landing_rules.specs.Flights.{Active, Situation, Schedule, Landing, landing, landings}
 use Rattle.landing_rules.specs.Rules.{cost, objective, ArePairSeparated, IsFeasible}
-use Rattle.landing_rules.specs.Events.{named, in_landing_order, IsPlanShown}
-use Rattle.landing_rules.specs.Text.{ShownLanding, shown_plan}
+use Rattle.landing_rules.specs.Events.{named, in_landing_order}
+use Rattle.landing_rules.specs.Text.{ShownLanding}
 use Rattle.landing_rules.specs.Sound.{IsSound}
 use Rattle.landing_rules.specs.shared.Counting.{Member}
-use Rattle.landing_rules.specs.Audit.{Block, block_of, IsClean, OtherObjective, Value, has_line, disordered}
-use Rattle.landing_rules.specs.Audit.{lines_found, landing_of, by_rules, or_else, findings}
+use Rattle.landing_rules.specs.Audit.{Block, block_of, IsClean, Value, has_line, disordered}
+use Rattle.landing_rules.specs.Audit.{by_rules, or_else, findings}
 use Rattle.cps_theory.specs.RankLists.{In}
 use Rattle.cps_theory.specs.laws.NumberedLists.{in_numbers, numbers_in, distinct_numbers}
 use Rattle.landing_joint.specs.Numbered.{nobody, numbered, second_of, numbers_of}
-use Rattle.landing_joint.specs.AuditLaws.{AuditLaw, ShownPlanIsCleanLaw, shown_block}
+use Rattle.landing_joint.specs.AuditLaws.{AuditLaw, ShownPlanIsCleanLaw}
 use Rattle.landing_joint.proofs.Numbered.{landing_at, landings_are}
 use Rattle.landing_joint.proofs.Joint.{callsigns_differ}
 use Rattle.landing_joint.specs.shared.LandingsInOrder.{order_member, member_order, order_permutes}

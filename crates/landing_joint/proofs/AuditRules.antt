@@ -2,7 +2,7 @@
 use Rattle.std.proofs.Common.{arith}
 use Rattle.std.proofs.Common.{◌≡◌, ℕ, ◌≤◌, ◌⊎◌, inl, inr, List, [], ◌∷◌, filter, Bool, true, false, not, ◌||◌, nat_le}
 use Rattle.std.proofs.Common.{nat_lt, nat_eq, refl, sym, subst}
-use Rattle.std.specs.Prelude.{unwrap_or, is_none, flat_map, All, IsTrue, MatchOption, Option, Some, None}
+use Rattle.std.specs.Prelude.{unwrap_or, is_none, flat_map, All, IsTrue, MatchOption, Option}
 use Rattle.std.specs.Str.{bytes_eq}
 use Rattle.std.proofs.lemmas.Slice.Eq.{bytes_eq-Decides}
 use Rattle.std.proofs.lemmas.Bool.{and_parts, and_from, eqb-true, eq-eqb, leb-true, le-leb, ltb-true, lt-ltb}
@@ -10,7 +10,7 @@ use Rattle.std.proofs.lemmas.Bool.{false≢true}
 use Rattle.landing_rules.specs.Flights.{Callsign, Situation, Landing, horizon}
 use Rattle.landing_rules.specs.Rules.{last_second, is_open, waits, rank_among, place, ArePairSeparated}
 use Rattle.landing_rules.specs.Rules.{IsPairInPrecedence, IsShiftKept, IsFrozenKept, KeepsRules}
-use Rattle.landing_rules.specs.Testing.{is_pair_separated, is_shift_kept}
+use Rattle.landing_rules.specs.Testing.{is_shift_kept}
 use Rattle.landing_rules.specs.shared.Counting.{Member}
 use Rattle.landing_rules.specs.shared.Tests.{is_pair_separated-Decides, is_shift_kept-Decides}
 use Rattle.landing_rules.specs.Audit.{Precedence, Moved, Early, Shift, for_failing, are_apart, listed_late, by_rules}

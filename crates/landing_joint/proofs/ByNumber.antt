@@ -1,5 +1,5 @@
 -- The waiting flights by rank, as numbers.
-use Rattle.std.proofs.Common.{◌≡◌, ℕ, zero, suc, ◌<◌, ◌≤◌, ◌⊎◌, inl, inr, List, [], ◌∷◌, length, get_or, map, cond}
+use Rattle.std.proofs.Common.{◌≡◌, ℕ, ◌<◌, ◌≤◌, ◌⊎◌, inl, inr, List, [], ◌∷◌, length, get_or, map, cond}
 use Rattle.std.proofs.Common.{Bool, true, false, zero-le, arith, refl, sym, ap, ap₂, ◌∙◌}
 use Rattle.std.specs.Prelude.{unwrap_or, Some, None, IsPermutation, slice_get}
 use Rattle.std.specs.Ordering.{is_lt}
@@ -103,7 +103,8 @@ last_rises (f ∷ []) r = inr (
 )
 last_rises (f ∷ x ∷ fs) r = elim (last_rises _ r.1) [
   | inl e ↦ absurd (cons_nil x fs e)
-  | inr w ↦ grind arith ]
+  | inr w ↦ grind arith
+]
   where
     cons_nil : (x : Landing) (fs : List Landing) → ◌≡◌ {A = List Landing} (x ∷ fs) [] → ⊥
     cons_nil x fs e = cc

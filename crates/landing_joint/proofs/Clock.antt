@@ -1,19 +1,17 @@
 -- A clock event keeps the plan feasible.
-use Rattle.std.proofs.Common.{◌≡◌, ℕ, suc, ◌+◌, ◌-◌, ◌*◌, ◌<◌, ◌≤◌, ◌⊎◌, inl, inr, min, List, [], ◌∷◌, length, map}
+use Rattle.std.proofs.Common.{◌≡◌, ℕ, suc, ◌+◌, ◌-◌, ◌<◌, ◌≤◌, ◌⊎◌, inl, inr, min, List, [], ◌∷◌, length, map}
 use Rattle.std.proofs.Common.{filter, cond, Bool, true, false, not, ◌&&◌, nat_le, nat_lt, count_by, unwrap_or, zero-le}
 use Rattle.std.proofs.Common.{arith, refl, sym, ap, ap₂, subst, ◌∙◌}
 use Rattle.std.specs.Prelude.{All, IsTrue, Option, Some, None, is_none}
 use Rattle.std.proofs.lemmas.Bool.{cases_lt, cases_Bool, and_parts, lt-ltb, ltb-true, false≢true, false_from_ne_true}
-use Rattle.std.specs.Ordering.{is_lt, ordering_then, nat_cmp}
+use Rattle.std.specs.Ordering.{is_lt}
 use Rattle.wake_table.specs.Table.{separation}
-use Rattle.landing_rules.specs.declared.objective.Objective.{Objective}
-use Rattle.landing_rules.specs.declared.objective.Objective.TheVariants.{Makespan, Delay}
 use Rattle.landing_rules.specs.Flights.{Flight, Active, Situation, Schedule, Landing, landing, landings, waiting}
 use Rattle.landing_rules.specs.Flights.{horizon, horizon_after}
 use Rattle.landing_rules.specs.Rules.{last_second, is_open, lists, arrival_cmp, ArePairSeparated, IsPairInPrecedence}
-use Rattle.landing_rules.specs.Rules.{greatest, cost, objective, IsFeasible}
-use Rattle.landing_rules.specs.Events.{Clock, frozen_landings, freezes, after_clock, clock_back, ClockBack}
-use Rattle.landing_rules.specs.Events.{situation_after, IsPlanShown}
+use Rattle.landing_rules.specs.Rules.{objective, IsFeasible}
+use Rattle.landing_rules.specs.Events.{Clock, frozen_landings, freezes, after_clock, clock_back}
+use Rattle.landing_rules.specs.Events.{situation_after}
 use Rattle.landing_rules.specs.Sound.{IsGoodFlight, ListsNone, IsSound}
 use Rattle.cps_theory.specs.RankLists.{In, numbers_from}
 use Rattle.cps_theory.specs.Freeze.{rank_in, place_in, staying_of, overtook}
@@ -114,8 +112,17 @@ module _ (s : Situation) (sound : IsSound s) (t : Schedule) (f : IsFeasible s t)
   pub passing_is : (i : ℕ) → In i (numbers_of s.active)
       → count_passing i ≡ overtook (comes_before s.active) (second_of t) h ns.waiting i
   passing_is i m =
-      grind (arith, landing_at, landings_are, filter_map_is, count_by_map, count_by_agree, comes_is, in_filter,
-          filter_twice)
+      grind (
+        arith,
+        landing_at,
+        landings_are,
+        filter_map_is,
+        count_by_map,
+        count_by_agree,
+        comes_is,
+        in_filter,
+        filter_twice,
+      )
 
   -- ---- the situation stays sound
 

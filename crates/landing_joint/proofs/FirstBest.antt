@@ -1,16 +1,16 @@
 -- The first best list of a problem gives the first best schedule of its situation, and there is at most one.
 use Rattle.std.proofs.Common.{◌≡◌, ◌≢◌, ℕ, zero, suc, ◌<◌, ◌≤◌, inl, inr, List, [], ◌∷◌, length, get_or, map, filter}
-use Rattle.std.proofs.Common.{true, false, not, nat_lt, zero-le, arith, refl, sym, ap, subst, ◌∙◌}
+use Rattle.std.proofs.Common.{true, false, not, zero-le, arith, refl, sym, ap, subst, ◌∙◌}
 use Rattle.std.specs.Prelude.{Option, Some, None, option_map}
 use Rattle.std.proofs.lemmas.Bool.{cases_eq, cases_Bool}
 use Rattle.std.proofs.lemmas.List.{get_or_default}
 use Rattle.std.proofs.lemmas.List.Elements.{AllZip-get_or}
 use Rattle.wake_table.specs.Table.{IsWakeTable}
-use Rattle.landing_rules.specs.Flights.{Active, Situation, Schedule, waiting}
-use Rattle.landing_rules.specs.Rules.{IsFeasible, IsBest, IsTight, HaveSameOrder, objective, rank, waits}
+use Rattle.landing_rules.specs.Flights.{Active, Situation, Schedule}
+use Rattle.landing_rules.specs.Rules.{IsFeasible, IsBest, IsTight, HaveSameOrder, objective}
 use Rattle.landing_rules.specs.Events.{insert_landing, in_landing_order, IsPlanShown}
 use Rattle.landing_rules.specs.Problem as lists'
-use Rattle.landing_rules.specs.FirstBest.{ComesNoLater, IsFirstBest, IsFirstPlan, IsFirstBestList, IsFirstList}
+use Rattle.landing_rules.specs.FirstBest.{IsFirstBest, IsFirstPlan, IsFirstBestList, IsFirstList}
 use Rattle.landing_rules.specs.FirstBest.{order_of, order_of_list, insert_by, sorted_by}
 use Rattle.landing_rules.specs.Sound.{IsSound}
 use Rattle.cps_theory.specs.RankLists.{In, IsRank, of_rank}
@@ -22,7 +22,7 @@ use Rattle.cps_theory.specs.laws.Members.{in_filter, filter_in}
 use Rattle.cps_theory.specs.laws.NumberedLists.{filter_map_is, map_map, in_numbers, numbers_in, distinct_numbers}
 use Rattle.cps_theory.specs.laws.ProblemOfSituation as theory
 use Rattle.cps_theory.specs.laws.RankCounts.{count_is, count_stricter}
-use Rattle.landing_joint.specs.Numbered.{numbered, second_of, numbers_of, waits_at, comes_before, numbered_situation}
+use Rattle.landing_joint.specs.Numbered.{second_of, numbers_of, waits_at, comes_before, numbered_situation}
 use Rattle.landing_joint.specs.ByNumber.{number_at, joined}
 use Rattle.landing_joint.specs.RankedProblem.{no_waiting, ranked}
 use Rattle.landing_joint.specs.SoundProblem.{IsSoundProblem}
@@ -71,8 +71,18 @@ module _ (s : Situation) (sound : IsSound s) where
   order_is : (t : Schedule) → length t ≡ length s.active → order_of s t ≡ map rank_of (waiting_by t)
   unfolding rank_of
   order_is t long =
-      grind (arith, landing_at, landings_are, order_numbers, filter_map_is, map_map, map_agree, rank_is, in_filter,
-          in_waiting_by)
+      grind (
+        arith,
+        landing_at,
+        landings_are,
+        order_numbers,
+        filter_map_is,
+        map_map,
+        map_agree,
+        rank_is,
+        in_filter,
+        in_waiting_by,
+      )
 
   -- different waiting flights have different ranks
   rank_below : (i j : ℕ) → In i ns.waiting → comes_before s.active i j ≡ true → rank_of i < rank_of j

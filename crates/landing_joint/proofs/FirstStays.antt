@@ -33,7 +33,8 @@ module _ (comes_before : ℕ → ℕ → Bool) (order : FirstCome comes_before) 
         ]
       ],
     )
-    | inr b ↦ grind arith ]
+    | inr b ↦ grind arith
+  ]
 
   first_of : (x : ℕ) (xs : List ℕ) → First (x ∷ xs)
   first_of x [] = (

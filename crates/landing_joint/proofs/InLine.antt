@@ -1,17 +1,15 @@
 -- A flight that stays in line through a run is passed by at most k flights: each kind of event keeps the counts.
 use Rattle.std.proofs.lemmas.Grind.{common_steps}
-use Rattle.std.proofs.Common.{◌≡◌, ℕ, ◌+◌, ◌≤◌, inl, inr, true, false, length, List, [], ◌∷◌, Option, Some, None, refl}
+use Rattle.std.proofs.Common.{◌≡◌, ℕ, ◌+◌, ◌≤◌, inl, inr, true, false, List, [], ◌∷◌, Option, Some, None, refl}
 use Rattle.std.proofs.Common.{sym, ap, ap₂, subst, ◌∙◌, arith}
-use Rattle.std.specs.Prelude.{All, is_none}
-use Rattle.std.specs.declared.cmp.Ordering.{Ordering}
-use Rattle.std.specs.declared.cmp.Ordering.TheVariants.{Less, Equal, Greater}
-use Rattle.std.specs.Ordering.{is_lt, ordering_reverse}
+use Rattle.std.specs.Prelude.{All}
+use Rattle.std.specs.Ordering.{is_lt}
 use Rattle.std.proofs.lemmas.Bool.{cases_Bool, false≢true}
 use Rattle.std.proofs.lemmas.Cmp.{tied_itself}
 use Rattle.std.proofs.lemmas.List.Elements.{All-head, All-tail}
 use Rattle.std.proofs.lemmas.Slice.Eq.{bytes_eq-Decides}
 use Rattle.std.proofs.lemmas.Option.{same_Some}
-use Rattle.landing_rules.specs.Flights.{Active, Aerodrome, Callsign, Flight, Schedule, Situation, Span, is_waiting}
+use Rattle.landing_rules.specs.Flights.{Active, Aerodrome, Callsign, Flight, Schedule, Situation, Span}
 use Rattle.landing_rules.specs.Flights.{waiting}
 use Rattle.landing_rules.specs.Rules.{arrival_cmp, IsFeasible}
 use Rattle.landing_rules.specs.Events.{Event, Estimate, Cancel, Add, Clock, Refusal, State, Step, Answered, Run}
@@ -115,8 +113,18 @@ same_estimated s plan c eta windows sound x a m n e =
 same_added : (s : Situation) (plan : Option Schedule) (f : Flight) → IsSound s → refusal s (Add f) ≡ None
     → SameCounts s (situation_after s plan (Add f))
 same_added s plan f sound ok x a m n e =
-    grind (arith, common_steps, add_parts, in_filter, in_push, one_waits, filter_in, false≢true, none_any,
-        bytes_eq-Decides)
+    grind (
+      arith,
+      common_steps,
+      add_parts,
+      in_filter,
+      in_push,
+      one_waits,
+      filter_in,
+      false≢true,
+      none_any,
+      bytes_eq-Decides,
+    )
 
 -- ---- an accepted event
 

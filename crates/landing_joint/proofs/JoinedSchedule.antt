@@ -1,13 +1,11 @@
 -- The schedule that joins the frozen landings with a list of seconds by rank, in the rules' words and over
 -- numbers; and that a tight list gives a tight schedule.
-use Rattle.std.proofs.Common.{◌≡◌, ℕ, zero, suc, ◌-◌, ◌≤◌, inl, inr, List, [], ◌∷◌, length, map, filter, cond, count_by}
-use Rattle.std.proofs.Common.{get_or, arith, refl, sym, ap, ap₂, subst, ◌∙◌, zero-le}
-use Rattle.std.specs.Prelude.{Option, Some, None, unwrap_or, is_none}
+use Rattle.std.proofs.Common.{◌≡◌, ℕ, suc, ◌-◌, ◌≤◌, inl, inr, List, [], ◌∷◌, length, map, filter, cond}
+use Rattle.std.proofs.Common.{get_or, arith, refl, ap, ap₂, ◌∙◌, zero-le}
 use Rattle.std.specs.List.{AllZip}
-use Rattle.std.specs.Ordering.{is_lt}
 use Rattle.std.proofs.lemmas.List.Elements.{AllZip-get_or}
 use Rattle.landing_rules.specs.Flights.{Active, Situation, Schedule, waiting}
-use Rattle.landing_rules.specs.Rules.{arrival_cmp, rank, IsTight, HaveSameOrder}
+use Rattle.landing_rules.specs.Rules.{rank, IsTight, HaveSameOrder}
 use Rattle.landing_rules.specs.Problem as lists'
 use Rattle.landing_rules.specs.Sound.{IsSound}
 use Rattle.cps_theory.specs.RankLists.{In, IsRank, of_rank}

@@ -1,13 +1,13 @@
 -- Landings in the order of their seconds, and what does not hang on their order.
 use Rattle.std.proofs.Common.{◌≡◌, ◌≢◌, ℕ, ◌+◌, ◌<◌, ◌≤◌, inl, inr, List, [], ◌∷◌, get_or, map, filter, cond, Bool}
-use Rattle.std.proofs.Common.{true, false, nat_lt, count_by, arith, refl, sym, ap}
+use Rattle.std.proofs.Common.{true, false, count_by, arith, refl, sym, ap}
 use Rattle.std.specs.Prelude.{All, IsTrue, IsPermutation}
 use Rattle.std.proofs.lemmas.Bool.{cases_Bool, cases_lt, lt-ltb, le-ltb}
 use Rattle.std.proofs.lemmas.List.Sorted.{IsPermutation-refl, IsPermutation-cons, IsPermutation-trans}
 use Rattle.std.proofs.lemmas.List.Sorted.{IsPermutation-swap, IsPermutation-map, All-permutation, sum_by-IsPermutation}
 use Rattle.landing_rules.specs.declared.objective.Objective.{Objective}
 use Rattle.landing_rules.specs.declared.objective.Objective.TheVariants.{Makespan, Delay}
-use Rattle.landing_rules.specs.Flights.{Flight, Situation, Landing, horizon}
+use Rattle.landing_rules.specs.Flights.{Situation, Landing, horizon}
 use Rattle.landing_rules.specs.Rules.{last_second, is_open, waits, rank_among, place, greatest, cost, ArePairSeparated}
 use Rattle.landing_rules.specs.Rules.{IsPairInPrecedence, IsShiftKept, IsFrozenKept, KeepsShift, KeepsRules}
 use Rattle.landing_rules.specs.Events.{insert_landing, in_landing_order}

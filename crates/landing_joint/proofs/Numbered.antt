@@ -1,5 +1,5 @@
 -- The rules over lists of landings are those over numbers of flights.
-use Rattle.std.proofs.Common.{◌≡◌, ℕ, List, [], ◌∷◌, length, map, arith, refl, sym, ap, ◌∙◌}
+use Rattle.std.proofs.Common.{◌≡◌, ℕ, List, [], ◌∷◌, length, map, arith, refl}
 use Rattle.landing_rules.specs.Flights.{Active, Schedule, Landing, landing, landings}
 use Rattle.landing_joint.specs.Numbered.{numbered, second_of, numbers_of}
 use Rattle.cps_theory.specs.laws.NumberedLists.{map_numbers}

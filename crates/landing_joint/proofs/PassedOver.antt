@@ -1,7 +1,7 @@
 -- With the carry a flight is passed by at most k flights, as long as nobody new comes to stand ahead of it.
 use Rattle.std.proofs.Common.{◌≡◌, ℕ, ◌+◌, ◌≤◌, inl, inr, min, true, false, List, Some, refl, sym, ap, ap₂, subst, ◌∙◌}
 use Rattle.std.proofs.Common.{arith}
-use Rattle.std.specs.Prelude.{◌≢◌, is_some}
+use Rattle.std.specs.Prelude.{◌≢◌}
 use Rattle.std.specs.Ordering.{is_lt}
 use Rattle.std.proofs.lemmas.Bool.{false≢true, le-ltb}
 use Rattle.std.proofs.lemmas.List.Kept.{AllPairs-filter}

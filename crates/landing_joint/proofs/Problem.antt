@@ -3,16 +3,13 @@ use Rattle.std.proofs.lemmas.Grind.{common_steps}
 use Rattle.std.proofs.Common.{◌≡◌, ℕ, zero, suc, ◌+◌, ◌-◌, ◌*◌, ◌<◌, ◌≤◌, ◌⊎◌, inl, inr, List, [], ◌∷◌, length, get_or}
 use Rattle.std.proofs.Common.{map, filter, cond, Bool, not, ◌&&◌, nat_le, zero-le, le_antisymm, add-one, arith, refl}
 use Rattle.std.proofs.Common.{sym, ap, ap₂, subst, ◌∙◌}
-use Rattle.std.specs.Prelude.{filter_map, option_map, unwrap_or, is_none, sum_by, Option, Some, None, IsPermutation}
-use Rattle.std.specs.List.{AllZip, list_any, cons_option, zip}
+use Rattle.std.specs.Prelude.{filter_map, option_map, unwrap_or, sum_by, None, IsPermutation}
+use Rattle.std.specs.List.{AllZip, list_any, zip}
 use Rattle.std.proofs.lemmas.Bool.{cases_eq, cases_lt, cases_Bool, and_parts, and_from, and_right, not-true}
 use Rattle.std.proofs.lemmas.List.Sorted.{IsPermutation-sym, IsPermutation-trans, sum_by-IsPermutation}
-use Rattle.wake_table.specs.declared.category.Category.{Category}
 use Rattle.wake_table.specs.Table.{separation}
-use Rattle.landing_rules.specs.declared.objective.Objective.{Objective}
-use Rattle.landing_rules.specs.declared.objective.Objective.TheVariants.{Makespan, Delay}
 use Rattle.landing_rules.specs.Flights.{landing, Active, Situation, Schedule, waiting}
-use Rattle.landing_rules.specs.Rules.{is_within, is_open, last_second, greatest, delay, cost, objective, IsFeasible}
+use Rattle.landing_rules.specs.Rules.{is_within, is_open, last_second, greatest, delay, objective, IsFeasible}
 use Rattle.landing_rules.specs.Rules.{IsBest}
 use Rattle.landing_rules.specs.Events.{frozen_landings}
 use Rattle.std.proofs.lemmas.List.Sums.{sum_by-cons}
@@ -43,7 +40,6 @@ use Rattle.std.proofs.lemmas.List.{length-map, get_or-map}
 use Rattle.std.proofs.lemmas.Grind.{same_number_lists}
 use Rattle.landing_joint.specs.shared.FirstBestLists.{numbers_get, numbers_long}
 use Rattle.landing_joint.specs.shared.BestLists.{sum_map}
-use Rattle.std.specs.Cmp.{both_ways}
 
 sum_parts : (g : ℕ → ℕ) (p : ℕ → Bool) (xs : List ℕ)
     → sum_by g xs ≡ sum_by g (filter (λ x. not (p x)) xs) + sum_by g (filter p xs)
@@ -198,8 +194,17 @@ module _ (s : Situation) (sound : IsSound s) (p : lists'.Problem) (of : lists'.I
   -- a feasible list gives a feasible schedule
   pub list_gives_schedule : (v : Schedule) → lists'.IsFeasibleList p v → IsFeasible s (joined s v)
   list_gives_schedule v f =
-      search (feasible_agree, joined_rank, list_feasible, numbered_feasible, numbers_long, feasible_problem,
-          sound_numbered, problem_of, joined_frozen)
+      search (
+        feasible_agree,
+        joined_rank,
+        list_feasible,
+        numbered_feasible,
+        numbers_long,
+        feasible_problem,
+        sound_numbered,
+        problem_of,
+        joined_frozen,
+      )
 
   -- ---- and back
 

@@ -1,6 +1,6 @@
 -- What makes a situation sound again after a change: what holds of each flight, and of the frozen landings one by one.
 use Rattle.std.proofs.Common.{◌≡◌, ◌<◌, ◌≤◌, true, false, length, sym, ap, subst, ◌∙◌, arith}
-use Rattle.std.specs.Prelude.{All, IsTrue}
+use Rattle.std.specs.Prelude.{All}
 use Rattle.cps_base.specs.Limits.{most_closures, most_flights, most_waiting}
 use Rattle.landing_rules.specs.Flights.{Active, Aerodrome, Landing, Situation, waiting, horizon}
 use Rattle.landing_rules.specs.Rules.{is_open, lists, ArePairSeparated, IsPairInPrecedence}

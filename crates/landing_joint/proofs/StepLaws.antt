@@ -1,15 +1,15 @@
 -- Each event that is accepted keeps a situation sound, so each step and each run keeps a state sound: first the events
 -- of a closure, which is closed or reopened, then all kinds together.
-use Rattle.std.proofs.Common.{◌≡◌, ℕ, ◌<◌, ◌≤◌, inl, inr, Bool, true, false, not, List, [], ◌∷◌, ◌++◌, length, filter}
-use Rattle.std.proofs.Common.{Option, Some, None, refl, sym, ap, subst, ◌∙◌, arith}
+use Rattle.std.proofs.Common.{◌≡◌, ℕ, ◌<◌, ◌≤◌, Bool, true, false, not, List, [], ◌∷◌, ◌++◌, length, filter}
+use Rattle.std.proofs.Common.{Option, Some, None, refl, ap, subst, ◌∙◌, arith}
 use Rattle.std.specs.Prelude.{option_map, is_some, nat_le, if◌then◌else◌}
 use Rattle.std.specs.List.{list_any}
 use Rattle.std.proofs.lemmas.Bool.{cases_Bool, cases_lt, le-leb, or_parts, and_parts, not-true}
 use Rattle.cps_base.specs.Limits.{most_closures}
-use Rattle.landing_rules.specs.Flights.{Aerodrome, Landing, Situation, Schedule, Span, is_waiting, horizon}
-use Rattle.landing_rules.specs.Rules.{is_open, is_within, is_shut, ArePairSeparated}
+use Rattle.landing_rules.specs.Flights.{Landing, Situation, Schedule, Span, is_waiting, horizon}
+use Rattle.landing_rules.specs.Rules.{is_open, is_shut}
 use Rattle.landing_rules.specs.Events.{Close, Reopen, frozen_landings, refusal, without_first, same_span}
-use Rattle.landing_rules.specs.Events.{situation_after, CoversFrozen, TooManyClosures, Estimate, Cancel, Add, Clock}
+use Rattle.landing_rules.specs.Events.{situation_after, CoversFrozen, TooManyClosures, Estimate, Cancel, Add}
 use Rattle.landing_rules.specs.Events.{Answered, IsPlanShown}
 use Rattle.landing_rules.specs.Sound.{IsSound, IsSoundState, IsGoodEvent}
 use Rattle.std.proofs.lemmas.List.{length_push}

@@ -1,5 +1,5 @@
 -- From the test of each pair or triple of seconds to the best schedule.
-use Rattle.std.proofs.Common.{◌≡◌, ℕ, ◌≤◌, true, [], ◌∷◌, length, ◌∙◌, arith}
+use Rattle.std.proofs.Common.{◌≡◌, ℕ, ◌≤◌, true, [], ◌∷◌, length, ◌∙◌}
 use Rattle.landing_rules.specs.Flights.{Situation, Schedule}
 use Rattle.std.specs.List.{AllZip}
 use Rattle.landing_rules.specs.Rules.{IsFeasible, IsBest, IsTight, HaveSameOrder, objective}

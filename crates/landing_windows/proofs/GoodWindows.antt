@@ -1,6 +1,6 @@
 -- What the windows of a flight keep.
-use Rattle.std.proofs.Common.{◌≡◌, ℕ, ◌+◌, ◌≤◌, List, [], ◌∷◌, Option, Some, None, Bool, true, false, cond}
-use Rattle.std.proofs.Common.{length, Ok, Err, arith, inl, inr}
+use Rattle.std.proofs.Common.{◌≡◌, ℕ, ◌+◌, ◌≤◌, List, [], ◌∷◌, Option, Some, None, true, false}
+use Rattle.std.proofs.Common.{length, Ok, arith, inl, inr}
 use Rattle.std.specs.Prelude.{nat_lt}
 use Rattle.std.proofs.lemmas.Bool.{cases_Bool, and_parts}
 use Rattle.std.proofs.lemmas.Grind.{common_steps}
@@ -10,9 +10,8 @@ use Rattle.landing_rules.specs.Flights.{Span}
 use Rattle.landing_rules.specs.Rules.{last_second}
 use Rattle.landing_rules.specs.Sound.{AreGoodWindows}
 use Rattle.landing_windows.specs.Spans.{AreSpansFrom, AreInOrder}
-use Rattle.landing_windows.specs.Windows.{is_in_days, overlaps, bad_span, seconds_in, fault_or, windows_of}
-use Rattle.landing_windows.specs.declared.windows.WindowFault.{WindowFault}
-use Rattle.landing_windows.specs.declared.windows.WindowFault.TheVariants.{Backward, Overlap, TooLong}
+use Rattle.landing_windows.specs.Windows.{is_in_days, overlaps, bad_span, seconds_in, windows_of}
+use Rattle.landing_windows.specs.declared.windows.WindowFault.TheVariants.{Backward, Overlap}
 use Rattle.landing_windows.specs.Runs.{all_forward, next_apart}
 
 -- the first second at which a span may begin after one that ended then
@@ -51,10 +50,6 @@ pub record Passed (ws : List Span) : Type 0 where
   pub few : length ws ≤ most_windows
   pub in_order : bad_span 1 None ws ≡ None
   pub short : seconds_in ws ≤ most_open_seconds
-
-no_fault : (ws : List Span) (fault : Option WindowFault) (b : Bool)
-    → fault_or fault (cond b (Err TooLong) (Ok ws)) ≡ Ok ws → (fault ≡ None) × (b ≡ false)
-no_fault ws fault b e = grind arith
 
 pub passed : (ws : List Span) → windows_of ws ≡ Ok ws → Passed ws
 unfolding windows_of

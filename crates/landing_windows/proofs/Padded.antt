@@ -16,9 +16,6 @@ pub padded_one_more : (xs : List Span) (p : Span) → length xs < most_closures
     → slice_set (padded (0, 0) most_closures xs) (length xs) p ≡ padded (0, 0) most_closures (xs ++ p ∷ [])
 padded_one_more xs p h = grind (arith, common_steps, set-append_seam)
 
-take_padded : (xs : List Span) (n : ℕ) → length xs ≡ n → take n (padded (0, 0) most_closures xs) ≡ xs
-take_padded xs n e = grind (arith, common_steps)
-
 pub push_kept : (pairs : List Span) (len : ℕ) (p : Span) → Keeps pairs len → len < most_closures → IsClosure p
     → Keeps (slice_set pairs len p) (len + 1)
 push_kept pairs len p k room is = grind (arith, common_steps, padded_one_more)

@@ -17,9 +17,6 @@ use Rattle.landing_windows.specs.Runs.{maximal_one_more, from_lower, opens_in_da
 
 -- ---- one more run
 
-no_second : (u first last : ℕ) → last < first → is_within u (first, last) ≡ false
-no_second u first last none = grind (arith, common_steps)
-
 run_on : (u last : ℕ) (w : Span) (before : Bool) → w.0 ≤ w.1 → w.1 < last
     → (before || (is_within u (w.0, last) || false)) ≡ ((before || (is_within u w || false))
     || is_within u (w.1 + 1, last))
@@ -78,9 +75,6 @@ pub record IsSwept (test : ℕ → Bool) (ws ss times : List Span) : Type 0 wher
   pub open_spans : AreInOrder ss
   pub maximal : AreMaximal times
   pub before : EndBefore (max (start ws) (start ss) + 1) times
-
-pub nothing_yet : (ws ss : List Span) → AreInOrder ws → AreInOrder ss → IsSwept (λ u. opens ws u && opens ss u) ws ss []
-nothing_yet ws ss a b = grind arith
 
 starts_after : (least : ℕ) (ws : List Span) → AreSpansFrom 1 least ws → least ≤ last_second + 1 → least ≤ start ws
 starts_after least ws a h = grind arith

@@ -1,9 +1,7 @@
 -- The landings of a certificate with one more, how long a pattern is, and how great its number.
-use Rattle.std.proofs.Common.{rules, ◌≡◌, ℕ, ◌*◌, ◌<◌, ◌≤◌, ◌^◌, Bool, true, false, List, [], ◌∷◌, ◌++◌}
-use Rattle.std.proofs.Common.{length, arith}
-use Rattle.cps_base.specs.Limits.{greatest_k}
+use Rattle.std.proofs.Common.{rules, ◌≡◌, ℕ, ◌<◌, ◌≤◌, ◌^◌, Bool, true, false, List, [], ◌∷◌, ◌++◌, length, arith}
 use Rattle.cps_base.specs.Text.{is_callsign}
-use Rattle.certificate.specs.Patterns.{is_pattern_length, number_of}
+use Rattle.certificate.specs.Patterns.{number_of}
 use Rattle.certificate.specs.Reading.{AreLandings}
 use Rattle.landing_rules.specs.Rules.{last_second}
 
@@ -11,10 +9,6 @@ pub landings_more : (ls : List (List ℕ × ℕ)) (l : List ℕ × ℕ) → AreL
     → l.1 ≤ last_second → AreLandings (ls ++ l ∷ [])
 landings_more [] l h p q = (p, q, tt)
 landings_more (x ∷ xs) l h p q = (h.0, h.1, landings_more xs l h.2 p q)
-
--- two digits for each place that a flight may be shifted
-pub even_length : (k : ℕ) → k ≤ greatest_k → is_pattern_length (2 * k) ≡ true
-even_length k h = grind arith
 
 pub number_below : (ds : List Bool) → number_of ds < 2 ^ length ds
 number_below [] = omega arith

@@ -1,15 +1,14 @@
 -- Listed states of which no successor pair is missed are closed under successor pairs.
 use Rattle.std.proofs.Common.{◌≡◌, ℕ, ◌+◌, inl, inr, Bool, true, false, ◌&&◌, List, [], ◌∷◌, Option, Some, None, refl}
-use Rattle.std.proofs.Common.{sym, ap, subst, ◌∙◌, arith}
+use Rattle.std.proofs.Common.{sym, subst, arith}
 use Rattle.std.specs.List.{list_any}
-use Rattle.std.specs.Ordering.{is_eq}
-use Rattle.std.proofs.lemmas.Bool.{or_cases, or_parts, and_parts, not-false}
+use Rattle.std.proofs.lemmas.Bool.{or_cases, or_parts, and_parts}
 use Rattle.cps_theory.specs.Labels.{InPairs, NoWorse, Pair, next_pair, no_worse}
 use Rattle.cps_theory.specs.LegalPrefix.{OrderRules}
 use Rattle.cps_theory.specs.Patterns.{PatternNode, PatternPermits, pattern_newest, pattern_node, pattern_push}
 use Rattle.cps_theory.specs.ClosedSets.{ClosedNodes}
-use Rattle.cps_theory.specs.CertificateClosure.{IsListed, IsListedOrStart, covers, first_missed, is_not_covered}
-use Rattle.cps_theory.specs.CertificateClosure.{missed_from, node_cmp}
+use Rattle.cps_theory.specs.CertificateClosure.{IsListed, IsListedOrStart, covers, first_missed}
+use Rattle.cps_theory.specs.CertificateClosure.{missed_from}
 use Rattle.cps_theory.specs.laws.FirstFound.{from_none, or_none, with_number_none}
 use Rattle.cps_theory.specs.laws.NodeOrder.{node_tie, eq_of}
 use Rattle.cps_theory.specs.laws.PatternTests.{permits_is}

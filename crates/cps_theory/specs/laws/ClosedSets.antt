@@ -1,6 +1,6 @@
 -- Closed sets of pairs have one no later and no dearer for every landing of every legal prefix.
 use Rattle.std.proofs.Common.{arith}
-use Rattle.std.proofs.Common.{true, ◌≡◌, ℕ, ◌≤◌, List, [], length, Option, Some, sym, subst, le_trans}
+use Rattle.std.proofs.Common.{true, ◌≡◌, ℕ, ◌≤◌, List, [], length, Option, Some, sym, subst}
 use Rattle.cps_theory.specs.Separation.{Landing}
 use Rattle.cps_theory.specs.Retiming.{IsFirstOpen, NeverEarlier}
 use Rattle.cps_theory.specs.LandingTrail.{Landed, pair_of, ranks}

@@ -1,6 +1,6 @@
 -- A landing trail continued by flights listed earliest first: its ranks, its cost, its order and its earliest landings.
-use Rattle.std.proofs.Common.{◌≡◌, ℕ, ◌+◌, ◌≤◌, inl, inr, List, [], ◌∷◌, Option, Some, arith, refl, sym, ap, ap₂, subst}
-use Rattle.std.proofs.Common.{◌∙◌, le_refl, ◌<◌, ◌⊎◌}
+use Rattle.std.proofs.Common.{◌≡◌, ℕ, ◌+◌, ◌≤◌, inl, inr, List, [], ◌∷◌, Option, Some, arith, refl, ap}
+use Rattle.std.proofs.Common.{◌∙◌, ◌<◌, ◌⊎◌}
 use Rattle.cps_theory.specs.RankLists.{In}
 use Rattle.cps_theory.specs.Separation.{Landing}
 use Rattle.cps_theory.specs.LandingTrail.{cost_of, latest_landing, ranks}

@@ -1,6 +1,5 @@
 -- Whether an order is legal can be decided.
-use Rattle.std.proofs.Common.{◌≡◌, ℕ, zero, suc, ◌≤◌, inl, inr, Bool, true, false, List, [], ◌∷◌, length, arith, refl}
-use Rattle.std.proofs.Common.{subst}
+use Rattle.std.proofs.Common.{◌≡◌, ℕ, zero, suc, ◌≤◌, inl, inr, Bool, true, List, [], ◌∷◌, length, arith}
 use Rattle.std.proofs.lemmas.Bool.{cases_lt, cases_eq, false≢true}
 use Rattle.cps_theory.specs.RankLists.{IsRank}
 use Rattle.cps_theory.specs.LegalPrefix.{FitsBehind, Legal, MayFollow, OrderRules}

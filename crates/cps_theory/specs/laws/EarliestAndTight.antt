@@ -1,5 +1,5 @@
 -- A schedule is tight exactly where each flight lands at its earliest second in the order of the schedule.
-use Rattle.std.proofs.Common.{◌≡◌, ℕ, inl, inr, List, [], ◌∷◌, length, Option, Some, true, arith, ap, ◌∙◌, le_antisymm}
+use Rattle.std.proofs.Common.{◌≡◌, ℕ, List, [], ◌∷◌, length, Option, Some, true, arith, ap, ◌∙◌, le_antisymm}
 use Rattle.cps_theory.specs.RankLists.{In, IsRank}
 use Rattle.cps_theory.specs.Separation.{Landing}
 use Rattle.cps_theory.specs.Retiming.{IsFirstOpen}

@@ -11,7 +11,7 @@ use Rattle.cps_theory.specs.Network.{Network}
 use Rattle.cps_theory.specs.Patterns.{PatternPermits, pattern_node}
 use Rattle.cps_theory.specs.Feasible.{Feasible, RankedProblem, SoundProblem, at_seconds, earliest, next_from}
 use Rattle.cps_theory.specs.Feasible.{second_and_cost, second_in}
-use Rattle.cps_theory.specs.CompletingPairs.{AllLow, Choice, Completes, KeptCompleting, LeastChoices, NoGreaterOrder}
+use Rattle.cps_theory.specs.CompletingPairs.{AllLow, Choice, Completes, KeptCompleting, LeastChoices}
 use Rattle.cps_theory.specs.CompletingPairs.{OrderWithinBudget, onto}
 use Rattle.cps_theory.specs.FirstBest.{BuiltByLeastChoices, FirstBest}
 use Rattle.cps_theory.specs.laws.Continuations.{onto_twice, no_greater_order_antisym, no_later_low, no_later_cost}

@@ -1,5 +1,5 @@
 -- Least choices build the first best schedule for the makespan, and for the delay.
-use Rattle.std.proofs.Common.{◌≡◌, ℕ, zero, suc, zero-le, Bool, nat_le, ◌+◌, ◌≤◌, List, [], ◌∷◌, length, Option, Some}
+use Rattle.std.proofs.Common.{◌≡◌, ℕ, suc, zero-le, Bool, nat_le, ◌+◌, ◌≤◌, List, [], ◌∷◌, length, Option, Some}
 use Rattle.std.proofs.Common.{true, arith, refl, le_trans}
 use Rattle.std.proofs.lemmas.Bool.{leb-true, le-leb}
 use Rattle.cps_theory.specs.Separation.{Landing}

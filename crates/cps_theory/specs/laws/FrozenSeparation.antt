@@ -1,6 +1,6 @@
 -- All flights keep the separation exactly where the frozen ones do, the waiting ones do, and each waiting one does
 -- after the last frozen one.
-use Rattle.std.proofs.Common.{ℕ, ◌+◌, ◌<◌, ◌≤◌, ◌⊎◌, inl, inr, List, ◌++◌, arith, ap}
+use Rattle.std.proofs.Common.{ℕ, ◌+◌, ◌<◌, ◌≤◌, ◌⊎◌, inl, inr, List, ◌++◌, arith}
 use Rattle.std.proofs.lemmas.Bool.{cases_eq}
 use Rattle.cps_theory.specs.RankLists.{In}
 use Rattle.cps_theory.specs.NumberedSituation.{AllSeparated}

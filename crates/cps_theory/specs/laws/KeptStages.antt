@@ -1,11 +1,11 @@
 -- Early prefixes stay legal, and land at the same seconds, where two problems agree on the low ranks; stages that do
 -- not count.
-use Rattle.std.proofs.Common.{◌≡◌, ℕ, ◌+◌, ◌<◌, ◌≤◌, false, inl, inr, List, [], ◌∷◌, length, arith, refl, ap, ap₂}
+use Rattle.std.proofs.Common.{◌≡◌, ℕ, ◌+◌, ◌<◌, ◌≤◌, false, inl, inr, List, [], ◌∷◌, length, arith}
 use Rattle.std.specs.List.{AllByRecursion}
 use Rattle.std.proofs.lemmas.Bool.{cases_lt, leb-false, ltb-false, or_parts}
 use Rattle.cps_theory.specs.RankLists.{In}
 use Rattle.cps_theory.specs.Separation.{Landing}
-use Rattle.cps_theory.specs.LandingTrail.{Landed, latest_landing, pair_of, ranks}
+use Rattle.cps_theory.specs.LandingTrail.{Landed, pair_of, ranks}
 use Rattle.cps_theory.specs.LegalPrefix.{EachFits, Legal, OrderRules}
 use Rattle.cps_theory.specs.Agreement.{AgreeBelow, SameLandings, counts}
 use Rattle.cps_theory.specs.laws.LegalPrefix.{legal_each_fits}

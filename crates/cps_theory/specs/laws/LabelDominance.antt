@@ -1,7 +1,7 @@
 -- A pair no later and no dearer has successors no later and no dearer, so what is closed under successors covers every
 -- landing.
 use Rattle.std.proofs.Common.{arith}
-use Rattle.std.proofs.Common.{◌≡◌, ℕ, ◌+◌, ◌≤◌, List, [], ◌∷◌, Option, Some, option_map, refl, ap, subst, ◌∙◌, le_trans}
+use Rattle.std.proofs.Common.{◌≡◌, ℕ, ◌+◌, ◌≤◌, List, [], ◌∷◌, Option, Some, option_map, ap, le_trans}
 use Rattle.std.proofs.Common.{le_refl, add-le-add}
 use Rattle.cps_theory.specs.Separation.{Landing}
 use Rattle.cps_theory.specs.Retiming.{IsFirstOpen, NeverEarlier}

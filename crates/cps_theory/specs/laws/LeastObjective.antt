@@ -1,5 +1,5 @@
 -- The least value kept at the last stage is the least of all feasible schedules; a closed certificate bounds them all.
-use Rattle.std.proofs.Common.{◌≡◌, ℕ, zero, suc, ◌≤◌, inl, List, [], ◌∷◌, length, Option, true, cond, arith, refl, sym}
+use Rattle.std.proofs.Common.{◌≡◌, ℕ, ◌≤◌, inl, List, [], ◌∷◌, length, Option, true, arith, refl, sym}
 use Rattle.std.proofs.Common.{ap, ap₂, subst, ◌∙◌, le_refl, le_antisymm}
 use Rattle.std.proofs.lemmas.Bool.{eq-eqb, ne_eqb}
 use Rattle.cps_theory.specs.RankLists.{Distinct}

@@ -1,5 +1,5 @@
 -- A window and its stage tell what is placed, and a prefix is legal as a whole exactly where it is step by step.
-use Rattle.std.proofs.Common.{ℕ, ◌+◌, ◌≤◌, ◌↔◌, inl, inr, List, [], ◌∷◌, length, arith}
+use Rattle.std.proofs.Common.{ℕ, ◌+◌, ◌≤◌, ◌↔◌, List, [], ◌∷◌, length, arith}
 use Rattle.std.proofs.lemmas.Bool.{cases_eq}
 use Rattle.cps_theory.specs.RankLists.{In}
 use Rattle.cps_theory.specs.LegalPrefix.{EachFits, IsLegalPrefix, Legal, NoneDue, OrderRules}

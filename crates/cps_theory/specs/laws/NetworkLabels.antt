@@ -1,7 +1,7 @@
 -- The pairs of a node from those kept of its sources: a successor of an attained pair is attained, and each attained
 -- pair has a source.
 use Rattle.std.proofs.Common.{◌≡◌, ℕ, ◌+◌, ◌≤◌, List, [], ◌∷◌, Option, Some, arith, refl, sym, ap, subst, ◌∙◌}
-use Rattle.std.proofs.Common.{le_antisymm, ap₂, ◌⊎◌, inl, inr}
+use Rattle.std.proofs.Common.{◌⊎◌, inl, inr}
 use Rattle.cps_theory.specs.Separation.{Landing}
 use Rattle.cps_theory.specs.Retiming.{IsFirstOpen, NeverEarlier}
 use Rattle.cps_theory.specs.LandingTrail.{Landed, cost_of, pair_of, ranks}

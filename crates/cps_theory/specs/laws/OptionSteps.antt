@@ -1,6 +1,6 @@
 -- What a chain of optional steps gives, if it gives anything.
 use Rattle.std.proofs.Common.{arith}
-use Rattle.std.proofs.Common.{◌≡◌, Option, Some, None, option_and_then, option_map, refl}
+use Rattle.std.proofs.Common.{◌≡◌, Option, Some, option_and_then, option_map}
 pub use Rattle.std.proofs.lemmas.Option.{same_Some as some_same}
 
 pub bound : {A B : Type 0} (f : A → Option B) (o : Option A) (b : B) → option_and_then f o ≡ Some b

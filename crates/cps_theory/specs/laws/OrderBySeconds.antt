@@ -1,5 +1,5 @@
 -- The ranks in the order of their seconds are one list, whether made earliest first or sorted latest first.
-use Rattle.std.proofs.Common.{◌≡◌, ℕ, inl, inr, List, [], ◌∷◌, arith, refl, sym, ap, ap₂}
+use Rattle.std.proofs.Common.{◌≡◌, ℕ, inl, inr, List, [], ◌∷◌, arith, refl, ap, ap₂}
 use Rattle.cps_theory.specs.RankLists.{In}
 use Rattle.cps_theory.specs.Feasible.{Feasible, RankedProblem, SoundProblem}
 use Rattle.cps_theory.specs.CompletingPairs.{onto}

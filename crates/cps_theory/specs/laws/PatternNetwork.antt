@@ -1,9 +1,9 @@
 -- The pattern of the placed ranks round a stage, with the latest rank, is a node of a network.
-use Rattle.std.proofs.Common.{◌≡◌, ℕ, zero, suc, ◌+◌, ◌-◌, ◌*◌, ◌<◌, ◌≤◌, ◌⊎◌, ◌↔◌, inl, inr, List, [], ◌∷◌, length}
-use Rattle.std.proofs.Common.{get_or, arith, refl, sym, ap, ap₂, ◌∙◌, Bool, true, false, ◌||◌, eqb}
+use Rattle.std.proofs.Common.{◌≡◌, ℕ, zero, suc, ◌+◌, ◌-◌, ◌*◌, ◌<◌, ◌≤◌, ◌↔◌, inl, inr, List, [], ◌∷◌, length}
+use Rattle.std.proofs.Common.{get_or, arith, refl, ap, ap₂, ◌∙◌, Bool, true, false, ◌||◌, eqb}
 use Rattle.std.proofs.lemmas.Bool.{cases_lt, cases_Bool, cases_eq, eqb-true, eq-eqb, ne_eqb, le-leb, lt-leb, or_cases}
 use Rattle.std.proofs.lemmas.Bool.{or_left, or_right, false≢true}
-use Rattle.cps_theory.specs.RankLists.{In, above, below}
+use Rattle.cps_theory.specs.RankLists.{In}
 use Rattle.cps_theory.specs.LegalPrefix.{Legal, MayCome, MayFollow, OrderRules}
 use Rattle.cps_theory.specs.Network.{Network}
 use Rattle.cps_theory.specs.Patterns.{IsPlacedByPattern, PatternNode, PatternPermits, is_member, pattern_digit}

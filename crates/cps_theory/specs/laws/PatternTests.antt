@@ -1,8 +1,6 @@
 -- What may come next at a node passes the test of the checker.
-use Rattle.std.proofs.Common.{◌≡◌, ℕ, suc, ◌-◌, ◌≤◌, inl, inr, Bool, true, false, not, ◌&&◌, eqb, refl, ap, arith}
-use Rattle.std.specs.Prelude.{is_none}
+use Rattle.std.proofs.Common.{◌≡◌, ℕ, ◌≤◌, true, false, not, arith}
 use Rattle.std.proofs.lemmas.Bool.{cases_lt, le-leb, leb-true, eq-eqb, or_cases, or_left, or_right, and_from}
-use Rattle.cps_theory.specs.RankLists.{above, below}
 use Rattle.cps_theory.specs.LegalPrefix.{MayCome, OrderRules}
 use Rattle.cps_theory.specs.Patterns.{IsPlacedByPattern, PatternNode, PatternPermits}
 use Rattle.cps_theory.specs.CertificateClosure.{is_missing_predecessor, is_placed_by_pattern, leaves_none_due}

@@ -1,6 +1,6 @@
 -- Counting in a list of ranks: by tests that cover, split or follow one another, behind a filter or a map.
 use Rattle.std.proofs.Common.{◌≡◌, ℕ, zero, suc, ◌+◌, ◌≤◌, ◌⊎◌, inl, inr, List, [], ◌∷◌, cond, Bool, true, false, ◌&&◌}
-use Rattle.std.proofs.Common.{ltb, leb, eqb, max, count_by, arith, refl, sym, ap, ap₂, ◌∙◌, zero-le, ◌<◌, length, map}
+use Rattle.std.proofs.Common.{ltb, leb, eqb, max, count_by, arith, refl, ap, ap₂, ◌∙◌, zero-le, ◌<◌, length, map}
 use Rattle.std.proofs.Common.{filter, not}
 use Rattle.std.proofs.lemmas.Bool.{cases_lt, cases_eq, cases_Bool, ltb-true, leb-true, eqb-true, le-leb, eq-eqb}
 use Rattle.std.proofs.lemmas.Bool.{and_parts, and_from, false≢true}

@@ -1,5 +1,5 @@
 -- The ranks up to a count: a fold that goes up through them, how many they are, and the greatest of their seconds.
-use Rattle.std.proofs.Common.{◌≡◌, ℕ, zero, suc, ◌+◌, ◌≤◌, ◌∷◌, arith, ap, ◌∙◌, inl, inr, length, cond, refl, ltb}
+use Rattle.std.proofs.Common.{◌≡◌, ℕ, zero, suc, ◌+◌, ◌≤◌, ◌∷◌, arith, ap, inl, inr, length, refl, ltb}
 use Rattle.std.proofs.lemmas.Bool.{cases_eq, lt-ltb, le-ltb}
 use Rattle.std.specs.List.{fold, range_with_len}
 use Rattle.cps_theory.specs.RankLists.{In, IsRank, upto}

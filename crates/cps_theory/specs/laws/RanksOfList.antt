@@ -1,8 +1,8 @@
 -- A list of different ranks from 1 to n has no more than n, all of them where it has n, and then the sums of the ranks
 -- up to n.
 use Rattle.std.proofs.lemmas.Grind.{common_steps}
-use Rattle.std.proofs.Common.{◌≡◌, ℕ, zero, suc, ◌+◌, ◌≤◌, ◌⊎◌, inl, inr, List, [], ◌∷◌, length, cond, Bool, true}
-use Rattle.std.proofs.Common.{false, eqb, arith, refl, sym, ap, ◌∙◌}
+use Rattle.std.proofs.Common.{◌≡◌, ℕ, zero, suc, ◌+◌, ◌≤◌, inl, inr, List, [], ◌∷◌, length, cond, Bool}
+use Rattle.std.proofs.Common.{eqb, arith, sym, ap, ◌∙◌}
 use Rattle.std.proofs.lemmas.Bool.{cases_eq, eqb-true, eqb-false, lt-ltb, le-leb, and_from}
 use Rattle.cps_theory.specs.RankLists.{Distinct, In, IsRank, upto}
 use Rattle.cps_theory.specs.Feasible.{total}

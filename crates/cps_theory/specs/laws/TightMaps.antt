@@ -1,7 +1,7 @@
 -- Landing a feasible order at its earliest seconds gives a tight schedule, no later anywhere; of a least one it gives a
 -- best one; one order has one tight schedule.
-use Rattle.std.proofs.Common.{◌≡◌, ℕ, zero, suc, ◌<◌, ◌≤◌, inl, inr, List, [], ◌∷◌, Option, Some, true, cond, ltb}
-use Rattle.std.proofs.Common.{arith, refl, sym, ap, ap₂, subst, ◌∙◌, le_refl, le_trans, le_antisymm}
+use Rattle.std.proofs.Common.{◌≡◌, ℕ, zero, suc, ◌<◌, ◌≤◌, List, [], ◌∷◌, Option, Some, true, ltb}
+use Rattle.std.proofs.Common.{arith, refl, sym, ap, subst, ◌∙◌, le_refl, le_trans, le_antisymm}
 use Rattle.std.proofs.lemmas.Bool.{cases_lt, lt-ltb, le-ltb}
 use Rattle.cps_theory.specs.RankLists.{In, IsRank, upto}
 use Rattle.cps_theory.specs.Retiming.{IsFirstOpen}

@@ -1,7 +1,7 @@
 -- A list of seconds by rank costs what its map does, and is best or tight where its map is.
 use Rattle.std.proofs.lemmas.Grind.{common_steps}
-use Rattle.std.proofs.Common.{◌≡◌, ℕ, zero, suc, ◌+◌, ◌<◌, ◌≤◌, List, [], ◌∷◌, length, get_or, map, max, arith, refl}
-use Rattle.std.proofs.Common.{sym, ap, ap₂, ◌∙◌}
+use Rattle.std.proofs.Common.{◌≡◌, ℕ, zero, suc, ◌<◌, ◌≤◌, List, [], ◌∷◌, length, get_or, map, max, arith, refl}
+use Rattle.std.proofs.Common.{sym, ap, ◌∙◌}
 use Rattle.std.specs.Prelude.{sum_by}
 use Rattle.std.specs.List.{AllZip, zip}
 use Rattle.std.proofs.lemmas.List.Elements.{AllZip-get_or}
@@ -15,7 +15,7 @@ use Rattle.landing_rules.specs.Rules as rules
 use Rattle.landing_rules.specs.Problem as lists'
 use Rattle.cps_theory.specs.RankLists.{IsRank, upto, of_rank}
 use Rattle.cps_theory.specs.Feasible.{IsBest, Tight, SameOrder, greatest, total}
-use Rattle.landing_joint.specs.RankedProblem.{no_waiting, ranked, cost_by, value_by, value_of_map, makespan_by}
+use Rattle.landing_joint.specs.RankedProblem.{no_waiting, ranked, cost_by, value_of_map, makespan_by}
 use Rattle.landing_joint.specs.shared.RankedLists.{list_feasible, feasible_list}
 use Rattle.cps_theory.specs.laws.ByRank.{ranks_permute}
 use Rattle.cps_theory.specs.laws.RanksBelow.{in_upto}

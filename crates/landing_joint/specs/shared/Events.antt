@@ -4,7 +4,7 @@ use Rattle.std.proofs.Common.{◌≡◌, ℕ, Option, Some, None, refl, sym, ap,
 use Rattle.std.specs.Prelude.{find, option_map}
 use Rattle.std.proofs.lemmas.Slice.Eq.{bytes_eq-Decides}
 use Rattle.landing_rules.specs.Flights.{Active, Callsign, Situation, Schedule}
-use Rattle.landing_rules.specs.Events.{Event, Clock, Frozen, named, situation_after, unknown_or_frozen}
+use Rattle.landing_rules.specs.Events.{Event, Frozen, named, situation_after, unknown_or_frozen}
 use Rattle.landing_rules.specs.Sound.{IsSound}
 use Rattle.landing_rules.specs.shared.Counting.{Member}
 use Rattle.landing_rules.specs.shared.Members.{found_in}

@@ -1,13 +1,11 @@
 -- A list of seconds by rank lands its ranks in the order of its map, and is the first best one where its map is. There
 -- is a first best list where one is feasible, and it is one.
-use Rattle.std.proofs.Common.{◌≡◌, ◌≢◌, ℕ, zero, suc, ◌+◌, ◌-◌, ◌<◌, ◌≤◌, inl, inr, List, [], ◌∷◌, length, get_or, map}
+use Rattle.std.proofs.Common.{◌≡◌, ◌≢◌, ℕ, zero, suc, ◌+◌, ◌<◌, ◌≤◌, List, [], ◌∷◌, length, get_or, map}
 use Rattle.std.proofs.Common.{max, true, add-one, arith, refl, sym, ap, ap₂, subst, ◌∙◌}
 use Rattle.std.proofs.Math.Nat.{mul-le-mul_left}
 use Rattle.std.specs.declared.cmp.Ordering.{Ordering}
 use Rattle.std.specs.declared.cmp.Ordering.TheVariants.{Less, Equal, Greater}
-use Rattle.std.specs.Ordering.{nat_cmp, ordering_then, ordering_reverse, is_le, is_eq}
-use Rattle.std.specs.Cmp.{nat_cmp_is}
-use Rattle.std.specs.Cmp.Lexicographic.{slice_cmp}
+use Rattle.std.specs.Ordering.{ordering_reverse, is_le, is_eq}
 use Rattle.std.proofs.lemmas.Bool.{false≢true}
 use Rattle.std.proofs.lemmas.List.{map-id}
 use Rattle.std.proofs.lemmas.Cmp.{nat_list_cmp_total}
@@ -218,8 +216,22 @@ module _ (p : lists'.Problem) (sound : SoundProblem (ranked p)) (passed : (r : �
 
   pub first_best_list_is_one : (v w : Schedule) → IsFirstBestList p v → IsFirstBestList p w → v ≡ w
   first_best_list_is_one v w a b =
-      search (arith, no_later_antisym, zip_same, order_alike, a.first, b.best, b.tight, b.first, a.best, a.tight,
-          a.tight.earliest, b.tight.feasible, a.tight.feasible, b.tight.earliest)
+      search (
+        arith,
+        no_later_antisym,
+        zip_same,
+        order_alike,
+        a.first,
+        b.best,
+        b.tight,
+        b.first,
+        a.best,
+        a.tight,
+        a.tight.earliest,
+        b.tight.feasible,
+        a.tight.feasible,
+        b.tight.earliest,
+      )
 
   -- a first best map, as a list
   pub first_best_listed : (u : ℕ → ℕ) → FirstBest (ranked p) (value_of_map p) u

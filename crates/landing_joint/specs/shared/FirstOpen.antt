@@ -1,5 +1,5 @@
 -- The first open second of spans is the least second at or after another that lies in one of them.
-use Rattle.std.proofs.Common.{◌≡◌, ℕ, ◌≤◌, ◌<◌, ◌⊎◌, inl, inr, Bool, true, false, ◌&&◌, cond, List, [], ◌∷◌, max, min}
+use Rattle.std.proofs.Common.{◌≡◌, ℕ, ◌≤◌, ◌<◌, ◌⊎◌, inl, inr, true, false, cond, List, [], ◌∷◌, max, min}
 use Rattle.std.proofs.Common.{Option, Some, None, refl, sym, ap, ◌∙◌, arith}
 use Rattle.std.specs.Prelude.{nat_le}
 use Rattle.std.specs.List.{list_any}
@@ -9,8 +9,7 @@ use Rattle.landing_rules.specs.Flights.{Span}
 use Rattle.landing_rules.specs.Rules.{is_within}
 use Rattle.landing_rules.specs.Problem.{Problem}
 use Rattle.cps_theory.specs.Retiming.{IsFirstOpen}
-use Rattle.cps_theory.specs.RankLists.{of_rank}
-use Rattle.landing_joint.specs.RankedProblem.{no_waiting, ranked, first_in_span, earlier_of, first_open, first_at}
+use Rattle.landing_joint.specs.RankedProblem.{ranked, first_in_span, earlier_of, first_open, first_at}
 
 -- ---- one span
 

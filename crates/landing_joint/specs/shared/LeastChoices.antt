@@ -1,6 +1,6 @@
 -- Taking at each place the least rank that can still be completed at the value lands the first best list.
 use Rattle.std.proofs.Common.{◌≡◌, ℕ, suc, ◌<◌, ◌≤◌, true, zero-le, List, [], ◌∷◌, length, Some, arith, refl, sym, ap}
-use Rattle.std.proofs.Common.{subst, ◌∙◌, le_trans}
+use Rattle.std.proofs.Common.{◌∙◌, le_trans}
 use Rattle.std.proofs.lemmas.Bool.{leb-true, le-leb}
 use Rattle.landing_rules.specs.declared.objective.Objective.{Objective}
 use Rattle.landing_rules.specs.declared.objective.Objective.TheVariants.{Makespan, Delay}
@@ -11,7 +11,7 @@ use Rattle.cps_theory.specs.Separation.{Landing}
 use Rattle.cps_theory.specs.LandingTrail.{cost_of, latest_landing, pair_of, ranks}
 use Rattle.cps_theory.specs.Labels.{Pair}
 use Rattle.cps_theory.specs.Patterns.{PatternNode, PatternPermits, pattern_newest, pattern_node, pattern_push}
-use Rattle.cps_theory.specs.Feasible.{Feasible, SoundProblem, at_seconds, next_from, second_and_cost}
+use Rattle.cps_theory.specs.Feasible.{Feasible, SoundProblem, at_seconds, next_from}
 use Rattle.cps_theory.specs.ProblemNetwork.{LandedIn}
 use Rattle.cps_theory.specs.CompletingPairs.{AllLow, Choice, KeptCompleting, NoEarlierNoDearer}
 use Rattle.cps_theory.specs.FirstBest.{BuiltByLeastChoices, CompletesNode}

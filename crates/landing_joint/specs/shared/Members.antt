@@ -1,5 +1,5 @@
 -- Flights by number, and where callsigns differ.
-use Rattle.std.proofs.Common.{◌≡◌, ℕ, suc, inl, inr, List, [], ◌∷◌, length, map, Some, refl, sym, ap, ◌∙◌, arith, zero}
+use Rattle.std.proofs.Common.{◌≡◌, ℕ, suc, inl, inr, List, [], ◌∷◌, length, map, Some, sym, ◌∙◌, arith}
 use Rattle.std.proofs.Common.{◌<◌}
 use Rattle.std.specs.Prelude.{AllPairs, ◌≢◌, option_map, filter_map}
 use Rattle.std.proofs.lemmas.List.Kept.{AllPairs-cons}

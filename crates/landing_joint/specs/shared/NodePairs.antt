@@ -1,17 +1,16 @@
 -- The completing pairs of a prefix are those of its node, told by its pattern.
 use Rattle.std.proofs.Common.{arith}
-use Rattle.std.proofs.Common.{◌≡◌, ℕ, suc, ◌-◌, ◌*◌, ◌≤◌, ◌↔◌, Bool, true, false, ◌||◌, leb, List, [], ◌∷◌, refl, sym}
-use Rattle.std.proofs.Common.{ap, subst, ◌∙◌}
+use Rattle.std.proofs.Common.{◌≡◌, ℕ, ◌≤◌, ◌↔◌, Bool, true, List, [], ◌∷◌}
+use Rattle.std.proofs.Common.{subst}
 use Rattle.std.proofs.lemmas.Bool.{false≢true}
 use Rattle.landing_rules.specs.Problem.{Problem}
 use Rattle.cps_theory.specs.RankLists.{In}
 use Rattle.cps_theory.specs.Separation.{Landing}
-use Rattle.cps_theory.specs.LandingTrail.{ranks}
 use Rattle.cps_theory.specs.Labels.{Pair}
 use Rattle.cps_theory.specs.LegalPrefix.{Legal}
 use Rattle.cps_theory.specs.Network.{Network}
-use Rattle.cps_theory.specs.Patterns.{IsPlacedByPattern, PatternNode, PatternPermits, is_member, pattern_digit}
-use Rattle.cps_theory.specs.Patterns.{pattern_newest, pattern_node, pattern_push, tests_from}
+use Rattle.cps_theory.specs.Patterns.{IsPlacedByPattern, PatternNode, PatternPermits, is_member}
+use Rattle.cps_theory.specs.Patterns.{pattern_newest, pattern_node, pattern_push}
 use Rattle.cps_theory.specs.Feasible.{SoundProblem, next_from}
 use Rattle.cps_theory.specs.CompletingPairs.{Follows}
 use Rattle.cps_theory.specs.FirstBest.{CompletesNode, ReachedIn}

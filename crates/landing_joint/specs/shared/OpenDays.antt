@@ -4,7 +4,7 @@ use Rattle.std.specs.List.{list_any}
 use Rattle.std.specs.Prelude.{All}
 use Rattle.std.proofs.lemmas.Bool.{and_parts, or_cases, leb-true, le-leb, false≢true}
 use Rattle.landing_rules.specs.Flights.{Span}
-use Rattle.landing_rules.specs.Rules.{last_second, is_open, is_within, is_shut}
+use Rattle.landing_rules.specs.Rules.{last_second, is_open, is_within}
 
 any_low : (ws : List Span) (u : ℕ) → All (λ w. (w.0 ≤ w.1) × (w.1 ≤ last_second)) ws → list_any (is_within u) ws ≡ true
     → u ≤ last_second

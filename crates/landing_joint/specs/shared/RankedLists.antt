@@ -1,7 +1,7 @@
 -- Lists of seconds by rank and maps from ranks to seconds: what is feasible, and what the theory asks of a problem.
 use Rattle.std.proofs.Common.{◌≡◌, ◌≢◌, ℕ, zero, suc, ◌+◌, ◌<◌, ◌≤◌, length, map, true, nat_lt, count_by, zero-le}
 use Rattle.std.proofs.Common.{add-one, arith, sym, ap, ap₂, subst, ◌∙◌}
-use Rattle.std.specs.Prelude.{IsTrue, MatchOption, Option, Some, None, slice_index, ⊤}
+use Rattle.std.specs.Prelude.{IsTrue, MatchOption, Option, slice_index, ⊤}
 use Rattle.std.specs.List.{list_any}
 use Rattle.std.proofs.lemmas.List.Sorted.{sum_by-IsPermutation}
 use Rattle.std.proofs.lemmas.Option.{slice_get-get_or, slice_get_within, get_or_from_slice_get}

@@ -1,5 +1,5 @@
 -- Numbers sorted by their seconds: the same numbers, each landing before those behind it.
-use Rattle.std.proofs.Common.{◌≡◌, ◌≢◌, ℕ, ◌<◌, ◌⊎◌, inl, inr, List, [], ◌∷◌, map, filter, Bool, arith, refl, ap, ap₂}
+use Rattle.std.proofs.Common.{◌≡◌, ◌≢◌, ℕ, ◌<◌, ◌⊎◌, inl, inr, List, [], ◌∷◌, map, filter, Bool, arith, refl, ap₂}
 use Rattle.std.proofs.lemmas.Bool.{cases_Bool, cases_lt, lt-ltb, le-ltb}
 use Rattle.landing_rules.specs.FirstBest.{insert_by, sorted_by}
 use Rattle.cps_theory.specs.RankLists.{In, Distinct}

@@ -1,5 +1,5 @@
 -- Texts without a mark, and lines without line feeds: a text that is cut at the mark tells what stands before it.
-use Rattle.std.proofs.Common.{◌≡◌, ℕ, ◌<◌, ◌≤◌, List, [], ◌∷◌, ◌++◌, Bool, true, false, refl, sym, ap, ◌∙◌, arith}
+use Rattle.std.proofs.Common.{◌≡◌, ℕ, ◌<◌, ◌≤◌, List, [], ◌∷◌, ◌++◌, Bool, true, refl, sym, ap, ◌∙◌, arith}
 use Rattle.std.proofs.Common.{rules, append_assoc}
 use Rattle.std.specs.Prelude.{◌^◌, ⊤, not, nat_eq, codes, decimal}
 use Rattle.std.specs.Char.{is_ascii_digit}

@@ -1,6 +1,6 @@
 -- Two lists in one strict order that have the same members are equal.
 use Rattle.std.proofs.Common.{arith}
-use Rattle.std.proofs.Common.{◌≡◌, inl, inr, List, [], ◌∷◌, refl, sym, ap₂, ◌∙◌}
+use Rattle.std.proofs.Common.{◌≡◌, inl, inr, List, [], ◌∷◌, refl, sym, ap₂}
 use Rattle.landing_rules.specs.shared.Counting.{Member}
 
 -- each comes before all that stand behind it

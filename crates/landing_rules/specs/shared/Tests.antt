@@ -1,14 +1,14 @@
 -- Each test answers whether its fact holds.
-use Rattle.std.proofs.Common.{◌≡◌, ℕ, ◌+◌, ◌<◌, ◌≤◌, Bool, true, false, ◌||◌, not, List, length, refl, sym, arith, leb}
-use Rattle.std.proofs.Common.{Some, None, Option}
-use Rattle.std.specs.Prelude.{All, MatchOption, ◌≢◌, filter, IsTrue}
+use Rattle.std.proofs.Common.{◌≡◌, ℕ, ◌≤◌, Bool, ◌||◌, not, List, length, refl, arith, leb}
+use Rattle.std.proofs.Common.{Option}
+use Rattle.std.specs.Prelude.{All, MatchOption, filter, IsTrue}
 use Rattle.std.specs.Bool.{Decides}
 use Rattle.std.specs.List.{list_all}
 use Rattle.std.proofs.lemmas.Bool.{leb-true, le-leb, true≢false}
 use Rattle.std.proofs.lemmas.Bool.Decides.{Decides-eqb, Decides-and, Decides-like, Decides-by_and, Decides-ltb}
 use Rattle.std.proofs.lemmas.Slice.Eq.{bytes_eq-Decides}
 use Rattle.landing_rules.specs.Flights.{Situation, Schedule, Landing, horizon}
-use Rattle.landing_rules.specs.Rules.{rank_among, place, ArePairSeparated, IsPairInPrecedence, IsShiftKept}
+use Rattle.landing_rules.specs.Rules.{ArePairSeparated, IsPairInPrecedence, IsShiftKept}
 use Rattle.landing_rules.specs.Rules.{IsFrozenKept, KeepsRules, IsFeasible}
 use Rattle.landing_rules.specs.Testing.{is_pair_separated, is_pair_in_precedence, is_shift_kept, keeps_frozen}
 use Rattle.landing_rules.specs.Testing.{for_each_pair, keeps_rules, is_feasible}

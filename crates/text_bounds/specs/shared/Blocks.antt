@@ -1,34 +1,26 @@
 -- How long a plan block is.
-use Rattle.std.proofs.Common.{rules, ◌≡◌, ℕ, ◌+◌, ◌*◌, ◌≤◌, List, [], ◌∷◌, ◌++◌, length, true, false, Bool, Option}
-use Rattle.std.proofs.Common.{Some, None, refl, arith}
+use Rattle.std.proofs.Common.{◌≡◌, ℕ, ◌+◌, ◌*◌, ◌≤◌, List, [], ◌∷◌, length, Option, Some, None, refl, arith}
 use Rattle.std.proofs.lemmas.Grind.{common_steps}
-use Rattle.std.specs.Prelude.{decimal, codes, map, option_map}
+use Rattle.std.specs.Prelude.{decimal, map, option_map}
 use Rattle.std.proofs.lemmas.List.{length-append}
 use Rattle.landing_rules.specs.declared.objective.Objective.{Objective}
-use Rattle.landing_rules.specs.declared.objective.Objective.TheVariants.{Makespan, Delay}
 use Rattle.landing_rules.specs.Flights.{Schedule}
-use Rattle.landing_rules.specs.Text.{ShownLanding, ShownPlan, block_lines, block_text, frozen_word, head_words}
-use Rattle.landing_rules.specs.Text.{landing_words, line, lines_text, objective_word, shown_plan}
+use Rattle.landing_rules.specs.Text.{ShownLanding, ShownPlan, block_lines, block_text, head_words}
+use Rattle.landing_rules.specs.Text.{landing_words, line, lines_text, shown_plan}
 use Rattle.plan_file.specs.Printed.{AreReadable, IsReadable, ShownPlanIsReadableLaw}
 use Rattle.plan_file.specs.shared.Landings.{shown_few}
 use Rattle.text_bounds.specs.Blocks.{BlockIsBoundedLaw, block_bound}
 use Rattle.text_bounds.specs.shared.Lengths.{callsign_short, second_short, value_short}
 
-word_short : (b : Bool) → length (frozen_word b) ≤ 8
-word_short b = grind arith
-
 landing_short : (f : ShownLanding) → length f.callsign ≤ 8 → length (decimal f.second) ≤ 6
     → length (line (landing_words f)) ≤ 29
-landing_short f name second = grind (arith, common_steps, word_short)
+landing_short f name second = grind (arith, common_steps)
 
 landings_short : (fs : List ShownLanding) → AreReadable fs → length (lines_text (map landing_words fs)) ≤ 29 * length fs
 landings_short [] h = omega arith
 landings_short (f ∷ fs) h =
     let both = length-append (line (landing_words f)) (lines_text (map landing_words fs)) in
     omega (arith, landing_short f (callsign_short _ h.0) (second_short _ h.1), landings_short fs h.2, both)
-
-objective_short : (o : Objective) → length (objective_word o) ≤ 9
-objective_short o = grind arith
 
 pub head_short : (o : Objective) (v : ℕ) → length (decimal v) ≤ 10 → length (line (head_words o v)) ≤ 20
 head_short o v value = grind (arith, common_steps)

@@ -1,5 +1,5 @@
 -- How long the lines of a certificate are.
-use Rattle.std.proofs.Common.{rules, refl, ◌≡◌, ℕ, ◌+◌, ◌*◌, ◌≤◌, List, [], ◌∷◌, ◌++◌, length, true, Bool, arith}
+use Rattle.std.proofs.Common.{rules, ◌≡◌, ℕ, ◌+◌, ◌*◌, ◌≤◌, List, [], ◌∷◌, length, true, Bool, arith}
 use Rattle.std.proofs.lemmas.Grind.{common_steps}
 use Rattle.std.specs.Prelude.{decimal, nat_le}
 use Rattle.std.specs.List.{list_all}
@@ -10,11 +10,10 @@ use Rattle.std.proofs.lemmas.List.{length-append, length-map}
 use Rattle.std.proofs.lemmas.List.Sums.{sum_by-cons}
 use Rattle.cps_base.specs.Limits.{greatest_word}
 use Rattle.certificate.specs.declared.certificate.Claim.{Claim}
-use Rattle.certificate.specs.declared.certificate.Claim.TheVariants.{Optimal, Infeasible}
 use Rattle.certificate.specs.Patterns.{is_pattern_length}
 use Rattle.certificate.specs.States.{AreStates, IsState, Pair, State, is_pair, is_second}
 use Rattle.certificate.specs.Reading.{AreLandings, IsClaim}
-use Rattle.certificate.specs.Spelling.{claim_text, digit_text, landing_lines, landing_text, pair_text, pairs_text}
+use Rattle.certificate.specs.Spelling.{claim_text, landing_lines, landing_text, pair_text, pairs_text}
 use Rattle.certificate.specs.Spelling.{pattern_text, state_lines, state_text}
 use Rattle.landing_rules.specs.Rules.{last_second}
 use Rattle.text_bounds.specs.Certificates.{CertificateIsBoundedLaw, pair_count}
@@ -32,9 +31,6 @@ landings_short (l ∷ ls) h =
     let one = landing_short l (callsign_short l.0 h.0) (second_short l.1 h.1) in
     omega (arith, one, landings_short ls h.2, length-append (landing_text l) (10 ∷ landing_lines ls))
 
-pattern_few : (n : ℕ) → is_pattern_length n ≡ true → n ≤ 6
-pattern_few n e = grind (arith, e)
-
 pattern_short : (ds : List Bool) → is_pattern_length (length ds) ≡ true → length (pattern_text ds) ≤ 6
 pattern_short ds e = search (rules, length-map)
 
@@ -51,17 +47,14 @@ pairs_short [] h = omega arith
 pairs_short (p ∷ ps) h =
     let here = and_parts (is_pair p) (list_all is_pair ps) h in
     let one = pair_short p here.0 in
-    omega (arith, one, pairs_short ps here.1, length-append (pair_text p) (pairs_text ps))
+    omega (arith, pairs_short ps here.1, length-append (pair_text p) (pairs_text ps))
 
 state_short : (s : State) → IsState s → length (state_text s) ≤ 18 + 18 * length s.pairs
 state_short s h = grind (arith, rank_short, pairs_short, length-append, decimal, pattern_short)
 
 states_short : (ss : List State) → AreStates ss → length (state_lines ss) ≤ 19 * length ss + 18 * pair_count ss
 states_short [] h = omega arith
-states_short (s ∷ ss) h =
-    let one = state_short s h.0 in
-    let more = sum_by-cons (λ (x : State). length x.pairs) s ss in
-    omega (arith, one, states_short ss h.1, length-append (state_text s) (10 ∷ state_lines ss), more)
+states_short (s ∷ ss) h = grind (arith, common_steps, state_short, sum_by-cons, length-append, states_short ss h.1)
 
 pub certificate_short : CertificateIsBoundedLaw
 certificate_short c h = grind (arith, claim_short, length-append, landings_short, states_short)

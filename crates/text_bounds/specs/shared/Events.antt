@@ -1,22 +1,19 @@
 -- What is asked of each kind of event: the callsigns that the events of a log name are short, and so is the cause of
 -- each refusal.
-use Rattle.std.proofs.Common.{◌≡◌, ℕ, ◌≤◌, inl, inr, List, [], ◌∷◌, length, map, true, false, Bool, cond, Result, Ok}
-use Rattle.std.proofs.Common.{Err, subst, ◌++◌, Option, Some, None, arith}
-use Rattle.std.specs.Prelude.{All, codes, bytes_eq, nat_le, not, ◌==◌, IsTrue, decimal, find, option_map, nat_lt, IfOk}
+use Rattle.std.proofs.Common.{◌≡◌, ℕ, ◌≤◌, inl, inr, List, [], ◌∷◌, length, map, Bool, cond}
+use Rattle.std.proofs.Common.{Result, Ok, subst, Option, Some, None, arith}
+use Rattle.std.proofs.lemmas.Grind.{common_steps}
+use Rattle.std.specs.Prelude.{All, codes, bytes_eq, nat_le, IsTrue, find, option_map, nat_lt, IfOk}
 use Rattle.std.proofs.lemmas.Bool.{cases_Bool}
-use Rattle.std.proofs.lemmas.List.Elements.{All-nil, All-cons, All-append, All-map}
+use Rattle.std.proofs.lemmas.List.Elements.{All-nil, All-map}
 use Rattle.cps_base.specs.Answers.{◌>>=◌}
-use Rattle.cps_base.specs.Text.{is_callsign}
-use Rattle.cps_base.specs.Limits.{most_events, most_closures, most_flights, most_waiting}
+use Rattle.cps_base.specs.Limits.{most_closures, most_flights, most_waiting}
 use Rattle.arrivals.specs.declared.event.Event as log
 use Rattle.arrivals.specs.Seen.{event_of}
-use Rattle.csv_records.specs.Rows.{Fields, field}
-use Rattle.event_log.specs.declared.fault.Col.TheVariants as columns
+use Rattle.csv_records.specs.Rows.{Fields}
 use Rattle.event_log.specs.declared.fault.LogCause.{LogCause}
-use Rattle.event_log.specs.Columns.{callsign_in, category_in, column, empty_in, names_at, second_in, weight_in}
-use Rattle.event_log.specs.Columns.{windows_at}
 use Rattle.event_log.specs.Kinds.{add_in, cancel_in, clock_in, close_in, estimate_in, event_by, reopen_in}
-use Rattle.event_log.specs.Reading.{added, event_in, events_by, events_in, events_of, is_header}
+use Rattle.event_log.specs.Reading.{added, event_in, events_by, events_in, events_of}
 use Rattle.text_bounds.specs.Replays.{HasShortName, IsInDays}
 use Rattle.text_bounds.specs.shared.Lengths.{callsign_short, second_short}
 use Rattle.std.specs.List.{list_any}
@@ -42,66 +39,34 @@ IsNamed e = HasShortName (event_of e)
 
 then_ok : {A B E : Type 0} (Q : A → Type 0) (P : B → Type 0) (x : Result A E) (f : A → Result B E) → IfOk x Q
     → ((a : A) → Q a → IfOk (f a) P) → IfOk (x >>= f) P
-then_ok Q P (Ok a) f q h = h a q
-then_ok Q P (Err d) f q h = tt
-
--- the next column
-follows : {A : Type 0} (x : Result A LogCause) (f : A → Result log.Event LogCause) → ((a : A) → IfOk (f a) IsNamed)
-    → IfOk (x >>= f) IsNamed
-follows (Ok a) f h = h a
-follows (Err d) f h = tt
+then_ok Q P x f q h = grind arith
 
 by_cond : {A E : Type 0} (P : A → Type 0) (b : Bool) (x y : Result A E) → IfOk x P → IfOk y P → IfOk (cond b x y) P
-by_cond P true x y p q = p
-by_cond P false x y p q = q
-
-callsign_named : (r : Fields) (f : List ℕ → Result log.Event LogCause)
-    → ((c : List ℕ) → length c ≤ 8 → IfOk (f c) IsNamed) → IfOk (callsign_in r >>= f) IsNamed
-callsign_named r f h = then_ok _ _ _ f
-    (elim (cases_Bool (is_callsign (column columns.Callsign r))) [
-      | inl here ↦ rw here (callsign_short _ here)
-      | inr other ↦ rw other tt
-    ]) h
+by_cond P b x y p q = grind arith
 
 estimate_named : (r : Fields) → IfOk (estimate_in r) IsNamed
 unfolding estimate_in
-estimate_named r =
-    callsign_named r _ (λ a short. follows _ _ (λ b. follows (second_in r) _ (λ c. follows _ _ (λ d.
-    follows (windows_at r) _ (λ e. follows (empty_in columns.After r) _ (λ f. short))))))
+estimate_named r = grind arith
 
 cancel_named : (r : Fields) → IfOk (cancel_in r) IsNamed
 unfolding cancel_in
-cancel_named r =
-    callsign_named r _ (λ a short. follows _ _ (λ b.
-    follows (empty_in columns.Eta r) _ (λ c. follows (empty_in columns.Weight r) _ (λ d.
-    follows _ _ (λ e. follows (empty_in columns.After r) _ (λ f. short))))))
+cancel_named r = grind arith
 
 add_named : (r : Fields) → IfOk (add_in r) IsNamed
 unfolding add_in
-add_named r =
-    follows _ _ (λ a. follows (category_in r) _ (λ b. follows _ _ (λ c. follows (weight_in r) _ (λ d.
-    follows _ _ (λ e. follows (names_at a r) _ (λ f. tt))))))
+add_named r = grind arith
 
 close_named : (r : Fields) → IfOk (close_in r) IsNamed
 unfolding close_in
-close_named r =
-    follows _ _ (λ a. follows (empty_in columns.Category r) _ (λ b.
-    follows _ _ (λ c. follows (empty_in columns.Weight r) _ (λ d.
-    follows _ _ (λ e. follows (empty_in columns.After r) _ (λ f. tt))))))
+close_named r = grind arith
 
 reopen_named : (r : Fields) → IfOk (reopen_in r) IsNamed
 unfolding reopen_in
-reopen_named r =
-    follows _ _ (λ a. follows (empty_in columns.Category r) _ (λ b.
-    follows _ _ (λ c. follows (empty_in columns.Weight r) _ (λ d.
-    follows _ _ (λ e. follows (empty_in columns.After r) _ (λ f. tt))))))
+reopen_named r = grind arith
 
 clock_named : (r : Fields) → IfOk (clock_in r) IsNamed
 unfolding clock_in
-clock_named r =
-    follows _ _ (λ a. follows (empty_in columns.Category r) _ (λ b.
-    follows _ _ (λ c. follows (empty_in columns.Weight r) _ (λ d.
-    follows _ _ (λ e. follows (empty_in columns.After r) _ (λ f. tt))))))
+clock_named r = grind arith
 
 kind_named : (kind : List ℕ) (r : Fields) → IfOk (event_by kind r) IsNamed
 unfolding event_by
@@ -115,13 +80,11 @@ kind_named kind r =
 
 record_named : (n : ℕ) (r : Fields) → IfOk (event_in n r) IsNamed
 unfolding event_in
-record_named n r = by_cond _ (not (length r == 7)) _ _ tt (then_ok _ _ (event_by (field r 0) r) _ (kind_named _ r)
-    (λ e named. by_cond _ (nat_le most_events n) _ _ tt named))
+record_named n r = grind (arith, by_cond, then_ok, kind_named)
 
 added_named : (before : List log.Event) (x : Result log.Event LogCause) → All IsNamed before → IfOk x IsNamed
     → IfOk (added before x) (All IsNamed)
-added_named before (Ok e) all named = All-append IsNamed _ _ all (All-cons IsNamed e [] named (All-nil _))
-added_named before (Err d) all named = tt
+added_named before x all named = grind (arith, common_steps)
 
 rows_named : (before : List log.Event) (rs : List Fields) → All IsNamed before
     → IfOk (events_in before rs) (All IsNamed)
@@ -132,8 +95,7 @@ rows_named before (r ∷ rs) all = then_ok _ _ _ _ (added_named _ _ all (record_
 
 all_named : (rs : List Fields) → IfOk (events_by rs) (All IsNamed)
 unfolding events_by
-all_named [] = tt
-all_named (r ∷ rs) = by_cond _ (is_header r) _ _ (rows_named [] rs (All-nil _)) tt
+all_named rs = grind (arith, by_cond, rows_named, All-nil)
 
 pub log_named : (bytes : List ℕ) (es : List log.Event) → events_of bytes ≡ Ok es → All HasShortName (map event_of es)
 log_named bytes es is = All-map HasShortName _ es (IfOk-at_ok _ is (all_named _))
@@ -151,16 +113,7 @@ IsShort (ClockBack t) = t ≤ last_second
 IsShort r = Unit {0}
 
 cause_short : (r : Refusal) → IsShort r → length (cause r) ≤ 30
-cause_short (UnknownFlight c) h = omega (arith, h)
-cause_short (Frozen t) h = omega (arith, second_short t h)
-cause_short (Duplicate c) h = omega (arith, h)
-cause_short (PredecessorOfFrozen c) h = omega (arith, h)
-cause_short (CoversFrozen c t) h =
-    let d = length-append (c ++ codes " ") (decimal t) in
-    let e = h.0 in
-    omega (arith, second_short t h.1, length-append c (codes " "), d, e)
-cause_short (ClockBack t) h = omega (arith, second_short t h)
-cause_short r h = omega arith
+cause_short r h = grind (arith, second_short, length-append)
 
 module _ (s : Situation) (sound : IsSound s) where
   pub active_name : (a : Active) → Member a s.active → length a.flight.callsign ≤ 8
@@ -197,11 +150,7 @@ module _ (s : Situation) (sound : IsSound s) where
   preceding_short : (c : List ℕ) (r : Refusal)
       → option_map (λ (g : Landing). PredecessorOfFrozen g.flight.callsign)
       (find (λ g. lists g.flight c) (frozen_landings s)) ≡ Some r → IsShort r
-  preceding_short c r e = elim (cases_option (find (λ g. lists g.flight c) (frozen_landings s))) [
-    | inl none ↦ (let w : None ≡ Some r = rw none at e in absurd (cc w))
-    | inr some ↦ (let v : PredecessorOfFrozen some.0.flight.callsign ≡ r = cc in
-        subst IsShort v (of_frozen _ (found_in _ _ _ some.1).0).0)
-  ]
+  preceding_short c r e = grind (arith, cases_option, of_frozen, found_in)
 
   pub refusal_short : (e : Event) (r : Refusal) → IsInDays s.clock → IsGoodEvent e → HasShortName e
       → refusal s e ≡ Some r → length (cause r) ≤ 30

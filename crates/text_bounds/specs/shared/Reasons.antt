@@ -1,14 +1,13 @@
 -- The numbers of a verdict are small: ranks, numbers of states, and the objective of a list of seconds.
-use Rattle.std.proofs.Common.{rules, refl, ℕ, zero, suc, inl, inr, ◌+◌, ◌<◌, ◌≤◌, List, [], ◌∷◌, length, map, Bool}
+use Rattle.std.proofs.Common.{rules, ℕ, zero, suc, inl, inr, ◌+◌, ◌<◌, ◌≤◌, List, [], ◌∷◌, length, map, Bool}
 use Rattle.std.proofs.Common.{Option, Some, None, arith}
-use Rattle.std.proofs.lemmas.Grind.{common_steps}
 use Rattle.std.specs.Prelude.{⊤, All, bytes_eq, option_map, ◌==◌}
 use Rattle.std.specs.Option.{option_or}
 use Rattle.std.proofs.lemmas.Bool.{cases_Bool}
 use Rattle.std.proofs.lemmas.List.Elements.{All-nil, All-cons}
 use Rattle.cps_base.specs.Limits.{greatest_value, most_waiting}
 use Rattle.landing_rules.specs.Rules.{last_second}
-use Rattle.landing_rules.specs.Problem.{Problem, Waiting, list_objective}
+use Rattle.landing_rules.specs.Problem.{Problem, Waiting}
 use Rattle.cps_theory.specs.FirstFound.{element_from, first_from, first_pair_from, with_number}
 use Rattle.cps_theory.specs.CertificateClosure as closure
 use Rattle.cps_problem.specs.WellFormed.{IsWellFormed}
@@ -21,8 +20,7 @@ use Rattle.cert_check.specs.declared.verdict.Reason.TheVariants.{Closed, Early, 
 use Rattle.cert_check.specs.declared.verdict.Reason.TheVariants.{Shape, Shift, Successor, Value}
 use Rattle.cert_check.specs.declared.verdict.Verdict.{Verdict}
 use Rattle.cert_check.specs.declared.verdict.Verdict.TheVariants as verdict
-use Rattle.cert_check.specs.Landings.{Landings, are_not_flights, count, first_out_of_order, first_too_close, second_of}
-use Rattle.cert_check.specs.Landings.{seconds}
+use Rattle.cert_check.specs.Landings.{Landings, count, first_out_of_order, first_too_close, second_of}
 use Rattle.cert_check.specs.States.{final_failure, missed_from, successor_failure}
 use Rattle.cert_check.specs.Verdict.{claim_reason, failure, flights_reason, landing_reason, state_reason, value_reason}
 use Rattle.cert_check.specs.Verdict.{verdict_by, verdict_of, with_pair}
@@ -115,7 +113,7 @@ module _ (p : Problem) (well : IsWellFormed p) where
   ranks_found test = first_found test 1 _ _ (omega arith)
 
   value_found : (v : ℕ) (ls : Landings) → AreLandings ls → IfFound HasSmallNumbers (value_reason p v ls)
-  value_found v ls h = grind (arith, cases_Bool, objective_low, seconds_low)
+  value_found v ls h = grind (arith, objective_low, seconds_low)
 
   landing_found : (v : ℕ) (ls : Landings) → AreLandings ls → IfFound HasSmallNumbers (landing_reason p v ls)
   unfolding landing_reason

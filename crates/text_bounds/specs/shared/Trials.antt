@@ -1,14 +1,13 @@
 -- How long the summary of a trial is.
-use Rattle.std.proofs.Common.{rules, refl, ◌≤◌, [], ◌∷◌, ◌++◌, length, take, Option, Some, None, arith}
+use Rattle.std.proofs.Common.{◌≤◌, [], ◌∷◌, ◌++◌, length, take, Option, arith}
 use Rattle.std.proofs.lemmas.Grind.{common_steps}
 use Rattle.std.specs.Prelude.{⊤, MatchOption, codes, decimal}
 use Rattle.std.proofs.lemmas.Fmt.{length-decimal-le}
 use Rattle.std.proofs.lemmas.List.{length-append}
 use Rattle.landing_rules.specs.declared.objective.Objective.{Objective}
 use Rattle.cps_base.specs.Limits.{greatest_value}
-use Rattle.landing_rules.specs.Text.{ShownPlan, block_lines, head_words, line, lines_text}
+use Rattle.landing_rules.specs.Text.{ShownPlan, block_lines, line, lines_text}
 use Rattle.text_bounds.specs.Trials.{TrialIsBoundedLaw}
-use Rattle.text_bounds.specs.shared.Blocks.{head_short}
 use Rattle.text_bounds.specs.shared.Lengths.{value_short}
 
 first_short : (o : Objective) (plan : Option ShownPlan) → MatchOption plan ⊤ (λ p. p.value ≤ greatest_value)

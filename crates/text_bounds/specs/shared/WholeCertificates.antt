@@ -1,11 +1,9 @@
 -- How long a certificate is that leaves nothing out: by its landings, its states and their pairs.
-use Rattle.std.proofs.Common.{rules}
-use Rattle.std.proofs.lemmas.Grind.{common_steps}
-use Rattle.std.proofs.Common.{◌≡◌, ℕ, zero, suc, ◌≤◌, inl, inr, List, [], ◌∷◌, length, true, refl, sym, ap, ◌∙◌, arith}
-use Rattle.std.specs.Prelude.{All, not, IsPermutation}
+use Rattle.std.proofs.Common.{rules, ◌≡◌, ℕ, zero, suc, ◌≤◌, inl, inr, List, [], ◌∷◌, length, true, refl, arith}
+use Rattle.std.specs.Prelude.{All, IsPermutation}
 use Rattle.std.specs.List.{AllZip, list_any}
 use Rattle.std.proofs.Math.Nat.{mul-le-mul_right}
-use Rattle.std.proofs.lemmas.Bool.{and_parts, cases_lt}
+use Rattle.std.proofs.lemmas.Bool.{cases_lt}
 use Rattle.std.proofs.lemmas.List.Elements.{All-cons, All-filter, All-head, All-tail}
 use Rattle.std.proofs.lemmas.List.{get_or_past}
 use Rattle.std.proofs.lemmas.List.Sums.{sum_by-le}
@@ -13,7 +11,7 @@ use Rattle.landing_rules.specs.declared.objective.Objective.{Objective}
 use Rattle.landing_rules.specs.declared.objective.Objective.TheVariants.{Makespan, Delay}
 use Rattle.landing_rules.specs.Flights.{Active, Situation, Span, waiting}
 use Rattle.cps_base.specs.Limits.{most_open_seconds}
-use Rattle.landing_rules.specs.Rules.{is_shut, is_within}
+use Rattle.landing_rules.specs.Rules.{is_within}
 use Rattle.landing_rules.specs.Problem.{IsWaitingOf, Problem, Waiting, by_rank, insert_by_rank}
 use Rattle.landing_rules.specs.Sound.{IsSound}
 use Rattle.landing_rules.specs.shared.Members.{all_at, all_from, member_permutation}
@@ -23,7 +21,6 @@ use Rattle.landing_joint.specs.RankedProblem.{no_waiting}
 use Rattle.cps_theory.specs.Labels.{InPairs, Pair}
 use Rattle.cps_theory.specs.RankLists.{of_rank}
 use Rattle.certificate.specs.declared.certificate.Claim.{Claim}
-use Rattle.certificate.specs.declared.certificate.Claim.TheVariants as claim
 use Rattle.certificate.specs.States.{State, rises}
 use Rattle.cert_check.specs.Landings.{Landings, count}
 use Rattle.cert_check.specs.Whole.{IsAnswered, IsWholeState}
@@ -46,9 +43,9 @@ rank_permutes active = sort_moves _ insert_by_rank (λ a. refl) (λ a b bs. refl
 
 few_by_rank : (s : Situation) → IsSound s → All HasFewSeconds (by_rank (waiting s))
 few_by_rank s sound =
-    all_from _ _ (λ a m. all_at HasFewSeconds _ (All-filter _ HasFewSeconds _ (λ i a lt. (sound.flights i a
-    lt).windows.seconds)) a (member_permutation _ _ a (IsPermutation-sym (waiting s) (by_rank (waiting s))
-    (rank_permutes _)) m))
+    all_from _ _ (λ a m. all_at HasFewSeconds _ (All-filter _ HasFewSeconds _
+        (λ i a lt. (sound.flights i a lt).windows.seconds)) a
+        (member_permutation _ _ a (IsPermutation-sym (waiting s) (by_rank (waiting s)) (rank_permutes _)) m))
 
 -- pairs at such seconds are few
 abbrev HasFewPairs : Waiting → Type 0
@@ -92,8 +89,8 @@ whole_short bound states single seconds s p c sound of well form whole =
     let m = most_pairs p.objective in
     let few = few_each _ _ _ of.flights (few_by_rank s sound) in
     let count = states p c.states well whole.states in
-    let pairs = sum_by-le (λ (x : State). length x.pairs) m _ (λ i x lt. pairs_by _ p _ refl single seconds few
-    (whole.states.each i x lt)) in
+    let pairs = sum_by-le (λ (x : State). length x.pairs) m _
+        (λ i x lt. pairs_by _ p _ refl single seconds few (whole.states.each i x lt)) in
     let text = bound c form in
     omega (arith, as_many_landings p c.claim c.landings whole.answer, mul-le-mul_right m count)
 

@@ -18,6 +18,5 @@ returns-in_ok-landings-in-Some-clause-answered c =
 
 pub returns-in_ok-landings-in-Some-clause-claim : goal.returns-in_ok-landings-in-Some-clause-claim
 returns-in_ok-landings-in-Some-clause-claim c =
-    subst (λ (v : ℕ). v ≤ greatest_value) (sym c.value_of-value.ensures)
-    (objective_low c.args.problem.now c.in-Some.schedule.now c.head-well_formed.ensures.well_formed
-    c.seconds_are_in_days.ensures)
+    subst (λ (v : ℕ). v ≤ greatest_value) (sym c.value_of-value.ensures) (objective_low
+    c.args.problem.now c.in-Some.schedule.now c.head-well_formed.ensures.well_formed c.seconds_are_in_days.ensures)

@@ -12,14 +12,10 @@ loop-rank-preserved c =
     let one = rank.0 in
     let after = c.in_ok-push.ensures.items in (
       listed_more c.args.problem.now c.args.schedule.now c.args.order.now c.loop-rank.rank-index
-          c.loop-rank.landings.items c.push.new.self.items r
-          (waiting_of c.flight.result.now) c.second.result c.loop-rank-test.true refl one c.flight.ensures
-          c.second.ensures c.loop-rank.invariant.0 after,
+          c.loop-rank.landings.items c.push.new.self.items r (waiting_of c.flight.result.now) c.second.result
+          c.loop-rank-test.true refl one c.flight.ensures c.second.ensures c.loop-rank.invariant.0 after,
       subst AreLandings (sym after) (landings_more c.loop-rank.landings.items
           (c.flight.result.now.callsign, c.second.result) c.loop-rank.invariant.1 c.bytes-known.ensures.callsign
-          (omega (
-            arith,
-            (c.requires.seconds (r - 1) 0 (omega (arith, one, rank.1, c.requires.room))),
-            c.second.ensures,
-          ))),
+          (omega
+          (arith, (c.requires.seconds (r - 1) 0 (omega (arith, one, rank.1, c.requires.room))), c.second.ensures))),
     )

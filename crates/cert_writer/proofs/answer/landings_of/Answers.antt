@@ -15,8 +15,7 @@ landings_in-requires-clause-ranks c =
 
 pub returns-clause-listed : goal.returns-clause-listed
 returns-clause-listed c =
-    landings_are c.args.problem.now c.len-well_formed.ensures.well_formed c.args.schedule.now
-    c.requires.best.feasible c.in_ok-landings.landings.items (length c.args.schedule.now)
-    c.requires.best.feasible.one_each
+    landings_are c.args.problem.now c.len-well_formed.ensures.well_formed c.args.schedule.now c.requires.best.feasible
+    c.in_ok-landings.landings.items (length c.args.schedule.now) c.requires.best.feasible.one_each
     (c.in_ok-landings.ensures.listed ∙ ap (landings_in c.args.problem.now c.args.schedule.now)
     (c.as_slice.ensures.value ∙ c.reverse.ensures.items ∙ ap reverse c.in_ok-order.ensures))

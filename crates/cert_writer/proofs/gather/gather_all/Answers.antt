@@ -42,8 +42,7 @@ loop-i-preserved c =
     (omega (
       arith,
       slot,
-      ((window_slot p c.requires.laws.placed held stage number costs n c.requires.windows
-          slots hs i lt).has.within),
+      ((window_slot p c.requires.laws.placed held stage number costs n c.requires.windows slots hs i lt).has.within),
       c.loop-i.invariant.room,
     )) ∙ ap (list_at pairs) slot in
     let new = c.join.new.self in
@@ -57,10 +56,8 @@ loop-i-preserved c =
     subst (λ (m : ℕ). AreGathered p s lists (i + 1) (set pairs m new)) (sym slot) more
 
 pub returns : goal.returns
-returns c =
-    subst (λ (m : ℕ). AreGathered c.args.problem.now (stage_in (held_of c.args.kept.now) c.args.stage)
-    (lists_in (held_of c.args.kept.now) c.args.stage) m c.loop-i.pairs.items)
-    (omega (
+returns c = subst (λ (m : ℕ). AreGathered c.args.problem.now (stage_in (held_of c.args.kept.now) c.args.stage)
+    (lists_in (held_of c.args.kept.now) c.args.stage) m c.loop-i.pairs.items) (omega (
       arith,
       c.loop-i-test.false,
       c.loop-i.auto.i-end,

@@ -62,5 +62,4 @@ returns c =
     (are.pairs stage c.requires.stage.1) c.args.windows.now c.requires.windows slots c.in_ok-slots.ensures
     c.requires.makespan least c.in_ok-least.ensures.least c.loop-j.pairs.items
     (subst (λ (m : ℕ). AreEarliest slots least (8 * 2 ^ (2 * p.k)) m c.loop-j.pairs.items)
-    (omega (arith, c.loop-j-test.false, c.loop-j.auto.j-end, c.in_ok-least.ensures.least.one_each))
-    c.loop-j.invariant)
+    (omega (arith, c.loop-j-test.false, c.loop-j.auto.j-end, c.in_ok-least.ensures.least.one_each)) c.loop-j.invariant)

@@ -12,13 +12,12 @@ use Rattle.cert_writer.proofs.GatherLemmas.{node_near, one_slot_more}
 use Rattle.cert_writer.proofs.gather.slots_of.Goals as goal
 
 pub node-requires-clause-place : goal.node-requires-clause-place
-node-requires-clause-place c =
-    omega (
-      arith,
-      (ap (λ (xs : List ℕ). told_at xs c.loop-j.j) c.firsts-firsts.ensures),
-      (c.requires.windows.together.first c.loop-j.j
-          (omega (arith, c.loop-j-test.true, (ap (λ (xs : List ℕ). length xs) c.firsts-firsts.ensures)))),
-    )
+node-requires-clause-place c = omega (
+  arith,
+  (ap (λ (xs : List ℕ). told_at xs c.loop-j.j) c.firsts-firsts.ensures),
+  (c.requires.windows.together.first c.loop-j.j
+      (omega (arith, c.loop-j-test.true, (ap (λ (xs : List ℕ). length xs) c.firsts-firsts.ensures)))),
+)
 
 pub slot_of-slot-requires-clause-last : goal.slot_of-slot-requires-clause-last
 slot_of-slot-requires-clause-last c =
@@ -59,10 +58,8 @@ loop-j-preserved c =
     }))
 
 pub returns : goal.returns
-returns c =
-    subst (λ (m : ℕ). HaveSlots c.args.problem.now.k c.args.stage
-    (stage_in (held_of c.args.kept.now) c.args.stage).1 c.args.windows.now.firsts m c.loop-j.slots.items)
-    (omega (
+returns c = subst (λ (m : ℕ). HaveSlots c.args.problem.now.k c.args.stage
+    (stage_in (held_of c.args.kept.now) c.args.stage).1 c.args.windows.now.firsts m c.loop-j.slots.items) (omega (
       arith,
       c.loop-j-test.false,
       c.loop-j.auto.j-end,

@@ -18,11 +18,9 @@ use Rattle.cert_writer.proofs.states.add_state.Goals as goal
 
 -- what is read at the slot of a number
 best_at : (p : Problem) (held : Option HeldProblem) (stage number k ones : ℕ) (slots : List (List Pair))
-    (now best : List Pair) → k ≡ p.k
-    → number_of (bits (2 * k) ones) ≡ number / 8 → ones < 2 ^ (2 * k) → IsGathered p held stage slots
-    → now ≡ get_or slots (ones * 8 + number % 8) now
-    → HasOnly best (λ q. InPairs q now) → HasBetter best (λ q. InPairs q now)
-    → AreBestAt p (stage_in held) (lists_in held) stage number ones slots best
+    (now best : List Pair) → k ≡ p.k → number_of (bits (2 * k) ones) ≡ number / 8 → ones < 2 ^ (2 * k)
+    → IsGathered p held stage slots → now ≡ get_or slots (ones * 8 + number % 8) now → HasOnly best (λ q. InPairs q now)
+    → HasBetter best (λ q. InPairs q now) → AreBestAt p (stage_in held) (lists_in held) stage number ones slots best
 best_at p held stage number k ones slots now best same digits below gathered is found covers =
     let slot = ones * 8 + number % 8 in
     let low = subst (λ (m : ℕ). ones < 2 ^ (2 * m)) same below in
@@ -39,14 +37,12 @@ best_at p held stage number k ones slots now best same digits below gathered is 
 made : (k same stage number ones : ℕ) (pattern : List Bool) (best : List Pair) → k ≡ same → pattern ≡ bits (2 * k) ones
     → ◌≡◌ {A = State} (record { stage = stage; pattern = pattern; last = stage + number % 8 - k; pairs = best })
     (record { stage = stage; pattern = bits (2 * same) ones; last = stage + number % 8 - same; pairs = best })
-made k same stage number ones pattern best is bits_are =
-    ap₂ (λ (ds : List Bool) (m : ℕ). record {
-      stage = stage;
-      pattern = ds;
-      last = stage + number % 8 - m;
-      pairs =
-          best;
-    }) (bits_are ∙ ap (λ (m : ℕ). bits (2 * m) ones) is) is
+made k same stage number ones pattern best is bits_are = ap₂ (λ (ds : List Bool) (m : ℕ). record {
+  stage = stage;
+  pattern = ds;
+  last = stage + number % 8 - m;
+  pairs = best;
+}) (bits_are ∙ ap (λ (m : ℕ). bits (2 * m) ones) is) is
 
 pub best-requires : goal.best-requires
 best-requires c =

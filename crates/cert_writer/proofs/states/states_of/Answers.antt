@@ -15,8 +15,7 @@ loop-stage-preserved c =
       λ some. subst (λ (m : ℕ). IsReadable held m × AreNodesOf held m c.in_ok-put.put) (sym nodes.stage_is) (
         (
           omega (arith, c.loop-stage.auto.stage),
-          omega
-              (arith, c.loop-stage-test.true, c.stages-stage-end.ensures.value),
+          omega (arith, c.loop-stage-test.true, c.stages-stage-end.ensures.value),
         ),
         nodes,
       ),

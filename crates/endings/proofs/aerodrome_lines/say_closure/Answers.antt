@@ -11,7 +11,7 @@ use Rattle.endings.proofs.aerodrome_lines.say_closure.Goals as goal
 -- the line by the text of its number and its word
 named : (n i : ℕ) (w : List ℕ) (fault : ClosureFault) → n ≡ i → w ≡ closure_word fault
     → between_line (codes "cps: aerodrome: closure ") n w ≡ closure_line i fault
-named x0 x1 x2 x3 x4 x5 = grind arith
+named n i w fault number word = grind arith
 
 pub returns : goal.returns
 returns g c = search (rules, says, named)

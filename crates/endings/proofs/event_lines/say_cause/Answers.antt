@@ -18,7 +18,7 @@ start = codes "cps: events: record "
 plain : (n : ℕ) (words : List ℕ) (cause : LogCause) → words ≡ event_words cause →
     ((column : Col) → (why : FieldCause) → cause ≡ log.Field column why → ⊥)
     → between_line start n words ≡ event_line (decimal n) cause
-plain x0 x1 x2 x3 x4 = grind arith
+plain n words cause is never = grind arith
 
 pub returns-in-Field : goal.returns-in-Field
 returns-in-Field g c = says _ _ _ _ _ (ap (event_line (decimal c.args.number)) (sym c.in-Field.is)) c.say_field.ensures

@@ -14,7 +14,7 @@ record_line n words word part why =
 
 by_pieces : (n : List ℕ) (cause : FlightCause)
     → record_line n (cause_words cause) (cause_word cause) (cause_part cause) (cause_why cause) ≡ cause_line n cause
-by_pieces x0 x1 = grind arith
+by_pieces n cause = grind arith
 
 named : (n m words word part why : List ℕ) (cause : FlightCause) → n ≡ m → words ≡ cause_words cause
     → word ≡ cause_word cause →

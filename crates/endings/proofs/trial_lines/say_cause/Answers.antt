@@ -16,7 +16,7 @@ start = codes "cps: trials: record "
 -- the line where no value is wrong
 plain : (n : ℕ) (words : List ℕ) (cause : TrialCause) → words ≡ trial_words cause →
     ((why : FieldCause) → cause ≡ trial.Value why → ⊥) → between_line start n words ≡ trial_line (decimal n) cause
-plain x0 x1 x2 x3 x4 = grind arith
+plain n words cause is never = grind arith
 
 pub returns-in-Value : goal.returns-in-Value
 returns-in-Value g c = says _ _ _ _ _ (ap (trial_line (decimal c.args.number)) (sym c.in-Value.is)) c.say_value.ensures

@@ -1,8 +1,8 @@
-use Rattle.std.proofs.Common.{◌≡◌, ℕ, ◌≤◌, true, inl, inr, refl, ap, arith}
+use Rattle.std.proofs.Common.{rules}
+use Rattle.std.proofs.Common.{◌≡◌, ℕ, ◌≤◌, true, inl, inr, arith}
 use Rattle.std.specs.Prelude.{◌==◌}
 use Rattle.std.proofs.lemmas.Bool.{cases_Bool}
 use Rattle.landing_rules.specs.declared.objective.Objective.{Objective}
-use Rattle.landing_rules.specs.declared.objective.Objective.TheVariants.{Makespan, Delay}
 use Rattle.landing_rules.specs.Flights.{Situation}
 use Rattle.arrivals.specs.declared.aerodrome.Aerodrome.{Aerodrome}
 use Rattle.arrivals.specs.Aerodromes.{IsInRange, is_delay, most_shift}
@@ -15,13 +15,11 @@ most_two : (v : ℕ) → most_shift v ≤ 2
 most_two v = elim (cases_Bool (v == 1)) [ inl first ↦ rw first (omega arith) | inr other ↦ rw other (omega arith) ]
 
 within : (o : Objective) (v k : ℕ) → (is_delay o ≡ true → k ≤ most_shift v) → IsWithinShift o k
-within Makespan v k h = tt
-within Delay v k h = let few = h refl in let most = most_two v in omega arith
+within o v k h = search (rules, most_two)
 
 plannable : (a : Aerodrome) (s : Situation) → IsInRange a → s.aerodrome ≡ aerodrome_of a
     → IsWithinShift s.aerodrome.objective s.aerodrome.k
 plannable a s range e = rw e (within a.objective a.version a.k range.shift)
 
 pub returns-in-None-clause-plannable : goal.returns-in-None-clause-plannable
-returns-in-None-clause-plannable c = plannable _ c.in_ok-situation.situation c.requires.aerodrome
-    (ap (λ s. s.aerodrome) c.in_ok-situation.ensures.value)
+returns-in-None-clause-plannable c = search (rules, plannable)

@@ -1,4 +1,5 @@
-use Rattle.std.proofs.Common.{◌<◌, ◌≤◌, length, map, sym, ap, ◌∙◌, arith}
+use Rattle.std.proofs.Common.{rules}
+use Rattle.std.proofs.Common.{◌≤◌, length, map, sym, ap, ◌∙◌, arith}
 use Rattle.std.specs.Prelude.{◌↔◌, IsTrue}
 use Rattle.std.proofs.lemmas.Bool.{false≢true}
 use Rattle.std.proofs.lemmas.List.{length-map}
@@ -32,9 +33,4 @@ loop-first-preserved c =
     ]
 
 pub returns : goal.returns
-returns c =
-    let items = c.args.ranked.now.items in
-    let n = length-map items (λ a. a.now) in
-    let past : length (map (λ a. a.now) items) < c.loop-first.first = let e = c.len.ensures in let v =
-    c.args.ranked.now.ok.0 in omega (arith, c.loop-first-test.false) in
-    all_added _ _ _ _ _ past c.loop-first.invariant
+returns c = search (rules, length-map, all_added)

@@ -1,4 +1,4 @@
-use Rattle.std.proofs.Common.{◌≡◌, ◌<◌, ◌+◌, [], ◌∷◌, ◌++◌, length, get_or, map, take, sym, ap, ◌∙◌, arith}
+use Rattle.std.proofs.Common.{◌+◌, [], ◌∷◌, ◌++◌, map, take, sym, ap, ◌∙◌, arith}
 use Rattle.std.proofs.lemmas.List.{length-map, take_more, map-append}
 use Rattle.std.proofs.lemmas.Slice.Zip.{all_zipped_more}
 use Rattle.landing_rules.specs.Problem.{IsWaitingOf}
@@ -13,13 +13,12 @@ loop-active-preserved c =
     let i = c.loop-active.active-index in
     let x = c.active-item.result in
     let n = length-map items (λ a. a.now) in
-    let within : i < length items = rw c.deref-active-items.ensures.value at c.loop-active-test.true in
-    let at : x ≡ get_or items i x = rw c.deref-active-items.ensures.value at c.active-item.is in
-    let is : x.now ≡ get_or xs i x.now = seen_at (λ a. a.now) items i x within at in
-    let here : take (i + 1) xs ≡ take i xs ++ x.now ∷ [] = take_more xs i x.now (omega arith)
+    let within = rw c.deref-active-items.ensures.value at c.loop-active-test.true in
+    let at = rw c.deref-active-items.ensures.value at c.active-item.is in
+    let is = seen_at (λ a. a.now) items i x within at in
+    let here = take_more xs i x.now (omega arith)
     ∙ ap (λ b. take i xs ++ b ∷ []) (sym is) in
-    let there : map waiting_of c.push.new.self.items ≡ map waiting_of c.loop-active.all.items
-    ++ waiting_of c.in_ok-waiting.waiting ∷ [] =
+    let there =
     ap (map waiting_of) c.in_ok-push.ensures.items ∙ map-append waiting_of _ (c.in_ok-waiting.waiting ∷ []) in
     rw (here, there) (all_zipped_more (IsWaitingOf c.args.closures.now) _ _ x.now
     (waiting_of c.in_ok-waiting.waiting) c.loop-active.invariant (c.in_ok-waiting.ensures _ c.in_ok-runway.ensures))

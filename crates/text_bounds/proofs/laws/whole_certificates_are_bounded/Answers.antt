@@ -1,5 +1,3 @@
-use Rattle.std.proofs.Common.{rules, arith, refl}
-use Rattle.std.proofs.lemmas.Grind.{common_steps}
 use Rattle.text_bounds.specs.shared.Certificates.{certificate_short}
 use Rattle.text_bounds.specs.shared.WholeCertificates.{loadable_short, whole_short}
 use Rattle.text_bounds.proofs.laws.whole_certificates_are_bounded.Goals as goal

@@ -24,9 +24,8 @@ returns-clause-covers c =
     c.sort_unstable.ensures.sorted (c.in_ok-best.ensures ∙ ap (sweep 4294967296) c.as_slice-2.ensures.value) c.requires
 
 pub returns-clause-rising : goal.returns-clause-rising
-returns-clause-rising c =
-    best_rises c.extend_from_slice.new.self.items c.sort_unstable.new.self.items c.in_ok-best.best.items
-    c.sort_unstable.ensures.permutation c.sort_unstable.ensures.sorted
+returns-clause-rising c = best_rises c.extend_from_slice.new.self.items c.sort_unstable.new.self.items
+    c.in_ok-best.best.items c.sort_unstable.ensures.permutation c.sort_unstable.ensures.sorted
     (c.in_ok-best.ensures ∙ ap (sweep 4294967296) c.as_slice-2.ensures.value)
 
 pub returns-clause-in_range : goal.returns-clause-in_range

@@ -29,8 +29,7 @@ loop-j-preserved c =
             let n = now.covers c.label.result (inr refl) in (
               n.0,
               n.1,
-              subst (λ (k : ℕ). NoWorse n.0 (pair_at list k)) (sym e)
-                  (subst (NoWorse n.0) c.label.ensures.value n.2),
+              subst (λ (k : ℕ). NoWorse n.0 (pair_at list k)) (sym e) (subst (NoWorse n.0) c.label.ensures.value n.2),
             )
         | inr ne ↦
             let o = inv.2 m (omega (arith, less, ne)) in

@@ -15,8 +15,7 @@ returns-then-last-pair-2-clause-covers c = λ q h.
       | inr e ↦ (
         c.index-last.result.now,
         last,
-        subst (NoWorse c.index-last.result.now) (sym e)
-            (c.if-last-pair.true, c.if-last-pair-2.true),
+        subst (NoWorse c.index-last.result.now) (sym e) (c.if-last-pair.true, c.if-last-pair-2.true),
       )
     ]
 

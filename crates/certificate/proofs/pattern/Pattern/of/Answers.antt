@@ -1,12 +1,7 @@
 use Rattle.std.proofs.Common.{arith, rules, ◌≡◌, ◌++◌, List, Bool, false, take, drop, length, replicate}
 use Rattle.std.proofs.lemmas.Grind.{common_steps}
 use Rattle.std.proofs.Math.Seq.{take-append_seam}
-use Rattle.std.proofs.lemmas.List.{drop-replicate}
-use Rattle.cps_base.specs.Padded.{padded}
 use Rattle.certificate.proofs.pattern.Pattern.of.Goals as goal
-
-kept : (digits : List Bool) → digits ++ drop (length digits) (replicate 6 false) ≡ padded false 6 digits
-kept digits = simp (drop-replicate)
 
 front : (digits : List Bool) → take (length digits) (digits ++ drop (length digits) (replicate 6 false)) ≡ digits
 front digits = take-append_seam digits _
