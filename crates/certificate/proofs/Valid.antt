@@ -103,7 +103,8 @@ line_keeps n b line b' e h = search
     (rules, landing_range, landings_more, states_more, state_range, ascending_more, length-append)
 
 lines_keep : (n : ℕ) (c : Claim) (b : Body) (line : List ℕ) (rest : List (List ℕ)) (x : Cert)
-    → IsClaim c → IsBody b → length b.1 + length rest < greatest_word → lines_in n c b line rest ≡ Ok x → IsCertificate x
+    → IsClaim c → IsBody b → length b.1 + length rest < greatest_word → lines_in n c b line rest ≡ Ok x
+    → IsCertificate x
 unfolding lines_in
 lines_keep n c b line [] x is h few e = search rules
 lines_keep n c b line (next ∷ rest) x is h few e =

@@ -5,7 +5,8 @@ use Rattle.std.specs.List.{AllAdjacentBelow}
 use Rattle.std.specs.Ordering.{nat_cmp, ordering_then, is_lt}
 use Rattle.std.specs.Cmp.Lexicographic.{slice_cmp}
 use Rattle.wake_table.specs.Table.{IsWakeTable}
-use Rattle.cps_base.specs.Limits.{dearest_landing, greatest_k, greatest_value, greatest_weight, latest_horizon, most_waiting}
+use Rattle.cps_base.specs.Limits.{dearest_landing, greatest_k, greatest_value, greatest_weight, latest_horizon}
+use Rattle.cps_base.specs.Limits.{most_waiting}
 use Rattle.landing_rules.specs.Rules.{last_second}
 use Rattle.landing_rules.specs.Problem.{Problem, Waiting, AreBetweenRanks}
 

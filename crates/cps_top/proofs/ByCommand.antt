@@ -48,7 +48,8 @@ numbers_fit a b d c words few near e = absurd (cc e)
 
 trial_fits : (rest : List (List ℕ)) (c : Command) (words : List (List ℕ)) → trial_of rest ≡ Some c → Fits c words
 trial_fits (s ∷ n ∷ k ∷ []) c words e = numbers_fit (number_of s 0 greatest_word) (number_of n 1 most_waiting)
-    (number_of k 0 greatest_k) c words (λ m is. number_in_range n 1 most_waiting m is) (λ m is. number_in_range k 0 greatest_k m is) e
+    (number_of k 0 greatest_k) c words (λ m is. number_in_range n 1 most_waiting m is)
+    (λ m is. number_in_range k 0 greatest_k m is) e
 trial_fits rest c words e = absurd (cc e)
 
 as_many : (a : Bool) (n m : ℕ) → (a && (n == m)) ≡ true → n ≡ m

@@ -36,7 +36,8 @@ trial_by seed n k = None
 
 -- a seed, a number of flights and a bound on shifts
 abbrev pub trial_of : List (List ℕ) → Option Command
-trial_of (seed ∷ n ∷ k ∷ []) = trial_by (number_of seed 0 greatest_word) (number_of n 1 most_waiting) (number_of k 0 greatest_k)
+trial_of (seed ∷ n ∷ k ∷ []) =
+    trial_by (number_of seed 0 greatest_word) (number_of n 1 most_waiting) (number_of k 0 greatest_k)
 trial_of words = None
 
 -- the command that these words fit

@@ -57,7 +57,8 @@ place_short k i (p ∷ ps) r few e = elim (cases_Bool (nat_lt k p.count)) [
   | inr below ↦ place_short k (i + 1) ps r (omega arith) (rw below at e)
 ]
 
-shift_short : (a : Aerodrome) (k : ℕ) (r : TrialRefusal) → IsInRange a → k ≤ greatest_k → shift_refusal a k ≡ Some r → IsShort r
+shift_short : (a : Aerodrome) (k : ℕ) (r : TrialRefusal) → IsInRange a → k ≤ greatest_k
+    → shift_refusal a k ≡ Some r → IsShort r
 shift_short a k r range small e = elim (cases_Bool (is_beyond a.version k a.objective)) [
   | inl beyond ↦
       subst IsShort (same_Some (refused.DelayShift k) r (rw beyond at e)) (omega (arith, rank_short k (omega arith)))

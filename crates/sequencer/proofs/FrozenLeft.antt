@@ -108,7 +108,8 @@ small_delays closures (x ∷ xs) good shown =
     ]
 
 -- of one flight at most 100 times each second of the two days, and nothing where it waits
-one_low : (a : Active) → HasSmallDelay a → delay_of a + dearest_landing * cond {A = ℕ} (is_waiting a) 1 0 ≤ dearest_landing
+one_low : (a : Active) → HasSmallDelay a
+    → delay_of a + dearest_landing * cond {A = ℕ} (is_waiting a) 1 0 ≤ dearest_landing
 one_low a h = go a.frozen h.second
   where
     go : (o : Option ℕ) → MatchOption o ⊤ (λ t. t ≤ last_second)
@@ -132,8 +133,8 @@ all_low (x ∷ xs) h =
       | inr e ↦ rw e (omega (arith, rw e at one, rest, sum))
     ]
 
-pub base_low : (s : Situation) → IsSound s → frozen_cost s.aerodrome.objective (frozen_landings s) + dearest_landing * length
-    (waiting s) ≤ dearest_landing * length s.active
+pub base_low : (s : Situation) → IsSound s
+    → frozen_cost s.aerodrome.objective (frozen_landings s) + dearest_landing * length (waiting s) ≤ dearest_landing * length s.active
 base_low s sound = go s.aerodrome.objective
   where
     small : All HasSmallDelay s.active

@@ -77,10 +77,10 @@ module _ (law : BlockIsBoundedLaw) (keeps : StepKeepsSoundLaw) where
       let next = next_tellable old _ e _ h own run.0 in
       let more = next.1 in
       let one = step_short old a.state e a.answer i (min most_flights m) h own (All-head HasShortName e events names)
-          (omega (arith, few)) run.0 (omega (arith, most, h.sound.situation.few_active))
-          (omega (arith, most, more, next.0.sound.situation.few_active)) in
+      (omega (arith, few)) run.0 (omega (arith, most, h.sound.situation.few_active))
+      (omega (arith, most, more, next.0.sound.situation.few_active)) in
       let rest = answers_short _ events _ (i + 1) m next.0 (All-tail IsGoodEvent e _ good)
-          (All-tail HasShortName e _ names) (omega (arith, few)) (omega (arith, most, more)) run.1 in
+      (All-tail HasShortName e _ names) (omega (arith, few)) (omega (arith, most, more)) run.1 in
       let both = length-append (answer_text i a.answer a.state) (answers_text (i + 1) answers) in
       omega (arith, one)
 
@@ -88,6 +88,6 @@ module _ (law : BlockIsBoundedLaw) (keeps : StepKeepsSoundLaw) where
   replay_short opening events answers h good names few run =
       let n = length opening.situation.active in
       let answers_are = answers_short opening events answers 1 (n + length events) h good names (omega (arith, few))
-          (omega arith) run in
+      (omega arith) run in
       let both = length-append (begun_text opening) (answers_text 1 answers) in
       omega (arith, both)

@@ -44,8 +44,8 @@ rank_permutes active = sort_moves _ insert_by_rank (λ a. refl) (λ a b bs. refl
 few_by_rank : (s : Situation) → IsSound s → All HasFewSeconds (by_rank (waiting s))
 few_by_rank s sound =
     all_from _ _ (λ a m. all_at HasFewSeconds _ (All-filter _ HasFewSeconds _
-        (λ i a lt. (sound.flights i a lt).windows.seconds)) a
-        (member_permutation _ _ a (IsPermutation-sym (waiting s) (by_rank (waiting s)) (rank_permutes _)) m))
+    (λ i a lt. (sound.flights i a lt).windows.seconds)) a
+    (member_permutation _ _ a (IsPermutation-sym (waiting s) (by_rank (waiting s)) (rank_permutes _)) m))
 
 -- pairs at such seconds are few
 abbrev HasFewPairs : Waiting → Type 0
@@ -90,7 +90,7 @@ whole_short bound states single seconds s p c sound of well form whole =
     let few = few_each _ _ _ of.flights (few_by_rank s sound) in
     let count = states p c.states well whole.states in
     let pairs = sum_by-le (λ (x : State). length x.pairs) m _
-        (λ i x lt. pairs_by _ p _ refl single seconds few (whole.states.each i x lt)) in
+    (λ i x lt. pairs_by _ p _ refl single seconds few (whole.states.each i x lt)) in
     let text = bound c form in
     omega (arith, as_many_landings p c.claim c.landings whole.answer, mul-le-mul_right m count)
 
