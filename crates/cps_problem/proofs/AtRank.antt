@@ -1,12 +1,11 @@
 -- The flight that is read at a rank, what holds of it, and its first open second.
-use Rattle.std.proofs.Common.{◌≡◌, ℕ, ◌+◌, ◌-◌, ◌*◌, ◌≤◌, true, List, [], ◌∷◌, Option, Some, None, sym, subst, arith}
-use Rattle.std.specs.Prelude.{All, slice_get, IfSome, MatchOption}
+use Rattle.std.proofs.Common.{◌≡◌, ℕ, ◌+◌, ◌-◌, ◌≤◌, List, Option, Some, None, sym, subst, arith}
+use Rattle.std.specs.Prelude.{All, slice_get, MatchOption}
 use Rattle.std.proofs.lemmas.Option.{slice_get_within, get_or_from_slice_get}
-use Rattle.std.proofs.lemmas.Bool.{cases_eq, or_cases, and_parts, leb-true, false≢true}
+use Rattle.std.proofs.lemmas.Bool.{cases_eq, false≢true}
 use Rattle.landing_rules.specs.Flights.{Span}
-use Rattle.landing_rules.specs.Rules.{last_second}
 use Rattle.landing_rules.specs.Problem.{Problem, Waiting}
-use Rattle.landing_windows.specs.Spans.{opens, FirstFrom, IsLeastFrom, IsStopFrom, SpanFrom, AreMaximal, AreSpansFrom}
+use Rattle.landing_windows.specs.Spans.{opens, FirstFrom, IsLeastFrom, IsStopFrom, SpanFrom}
 use Rattle.cps_theory.specs.RankLists.{of_rank}
 use Rattle.landing_joint.specs.RankedProblem.{no_waiting, first_open}
 use Rattle.landing_joint.specs.shared.FirstOpen.{first_open_none, first_open_some, first_open_found}
@@ -24,14 +23,6 @@ pub first_is : (spans : List Span) (t : ℕ) (answer : Option ℕ) → FirstFrom
     → answer ≡ first_open spans t
 first_is spans t answer h = grind (arith, first_open_none, first_open_some)
 
-in_days : (gap least t : ℕ) (spans : List Span) → AreSpansFrom gap least spans → opens spans t ≡ true → t ≤ last_second
-in_days gap least t [] h e = absurd (false≢true e)
-in_days gap least t (w ∷ ws) h e = grind (arith, or_cases, leb-true, and_parts, in_days gap (w.1 + gap) t ws h.3)
-
-pub first_in_days : (spans : List Span) (t : ℕ) (answer : Option ℕ) → AreMaximal spans
-    → FirstFrom (opens spans) t answer → IfSome answer (λ u. u ≤ last_second)
-first_in_days spans t answer m h = grind (arith, in_days)
-
 -- a span of open seconds is one in which a rank with these spans lands at once
 pub span_is : (spans : List Span) (from : ℕ) (span : Span) → IsLeastFrom (opens spans) from span.0
     → IsStopFrom (opens spans) span.0 (span.1 + 1) → IsOpenSpan (first_open spans) from span
@@ -41,7 +32,3 @@ pub spans_are : (spans : List Span) (from : ℕ) (answer : Option Span) → Span
     → MatchOption answer (first_open spans from ≡ None) (λ span. IsOpenSpan (first_open spans) from span)
 spans_are spans from None h = sym (first_open_none spans from h)
 spans_are spans from (Some span) h = span_is spans from span h.0 h.1
-
--- a weight of at most 100, for at most each second
-pub weight_low : (w d t e : ℕ) → w ≤ 100 → d ≡ t - e → w * d ≤ 100 * t
-weight_low w d t e light is = grind arith
