@@ -112,17 +112,7 @@ module _ (s : Situation) (sound : IsSound s) (t : Schedule) (f : IsFeasible s t)
   pub passing_is : (i : ℕ) → In i (numbers_of s.active)
       → count_passing i ≡ overtook (comes_before s.active) (second_of t) h ns.waiting i
   passing_is i m =
-      grind (
-        arith,
-        landing_at,
-        landings_are,
-        filter_map_is,
-        count_by_map,
-        count_by_agree,
-        comes_is,
-        in_filter,
-        filter_twice,
-      )
+      grind (arith, landings_are, filter_map_is, count_by_map, count_by_agree, comes_is, in_filter, filter_twice)
 
   -- ---- the situation stays sound
 

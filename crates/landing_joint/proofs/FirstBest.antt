@@ -71,18 +71,7 @@ module _ (s : Situation) (sound : IsSound s) where
   order_is : (t : Schedule) → length t ≡ length s.active → order_of s t ≡ map rank_of (waiting_by t)
   unfolding rank_of
   order_is t long =
-      grind (
-        arith,
-        landing_at,
-        landings_are,
-        order_numbers,
-        filter_map_is,
-        map_map,
-        map_agree,
-        rank_is,
-        in_filter,
-        in_waiting_by,
-      )
+      grind (arith, landings_are, order_numbers, filter_map_is, map_map, map_agree, rank_is, in_filter, in_waiting_by)
 
   -- different waiting flights have different ranks
   rank_below : (i j : ℕ) → In i ns.waiting → comes_before s.active i j ≡ true → rank_of i < rank_of j

@@ -23,7 +23,7 @@ use Rattle.landing_joint.specs.PassedOver.{passing_in_run, StepCountsLaw, FewPas
 use Rattle.landing_joint.specs.PassedOver.{FewPassFirstLaw, FewPassAnyoneLaw}
 use Rattle.landing_joint.specs.shared.Events.{aerodrome_stays, named_is}
 use Rattle.landing_joint.specs.shared.Members.{differ_of, one_of_name}
-use Rattle.landing_joint.proofs.FlightSteps.{add_parts, estimate_callsign, estimate_frozen}
+use Rattle.landing_joint.proofs.FlightSteps.{estimate_callsign, estimate_frozen}
 use Rattle.landing_joint.proofs.StepLaws.{event_keeps_sound, step_keeps_sound}
 use Rattle.landing_joint.proofs.PassedOver.{found, is_found, some_flight, clock_counts, clock_counts_exactly}
 use Rattle.landing_rules.specs.shared.Members.{in_filter, filter_in, in_map, in_push, none_any, all_at, all_from}
@@ -113,18 +113,7 @@ same_estimated s plan c eta windows sound x a m n e =
 same_added : (s : Situation) (plan : Option Schedule) (f : Flight) → IsSound s → refusal s (Add f) ≡ None
     → SameCounts s (situation_after s plan (Add f))
 same_added s plan f sound ok x a m n e =
-    grind (
-      arith,
-      common_steps,
-      add_parts,
-      in_filter,
-      in_push,
-      one_waits,
-      filter_in,
-      false≢true,
-      none_any,
-      bytes_eq-Decides,
-    )
+    grind (arith, common_steps, in_filter, in_push, one_waits, filter_in, false≢true, none_any, bytes_eq-Decides)
 
 -- ---- an accepted event
 

@@ -2,7 +2,7 @@
 use Rattle.std.proofs.Common.{◌≡◌, ◌≢◌, ℕ, ◌<◌, ◌≤◌, inl, inr, List, [], ◌∷◌, length, map, filter, true, false, not}
 use Rattle.std.proofs.Common.{nat_le, unwrap_or, arith, refl, sym, ap, subst, ◌∙◌}
 use Rattle.std.specs.Prelude.{filter_map, option_map, All, IsTrue, MatchOption, Option, Some, is_none}
-use Rattle.std.proofs.lemmas.Bool.{cases_eq, cases_order, cases_Bool, and_parts, and_from, leb-true, le-leb, false≢true}
+use Rattle.std.proofs.lemmas.Bool.{cases_order, cases_Bool, and_parts, and_from, leb-true, le-leb, false≢true}
 use Rattle.std.specs.declared.cmp.Ordering.{Ordering}
 use Rattle.std.specs.declared.cmp.Ordering.TheVariants.{Less, Equal, Greater}
 use Rattle.std.specs.Ordering.{nat_cmp, ordering_then, ordering_reverse, is_lt}
@@ -91,16 +91,7 @@ module _ (s : Situation) (sound : IsSound s) where
   pub comes_is : (i j : ℕ) → In i (numbers_of s.active) → In j (numbers_of s.active)
       → comes_before s.active i j ≡ is_lt (arrival_cmp (numbered s.active i).flight (numbered s.active j).flight)
   comes_is i j mi mj =
-      grind (
-        arith,
-        cases_eq,
-        then_not_equal,
-        callsigns_differ,
-        level-callsign,
-        tied_itself,
-        number_total,
-        arrival_total,
-      )
+      grind (arith, then_not_equal, callsigns_differ, level-callsign, tied_itself, number_total, arrival_total)
 
   module _ (t : Schedule) (long : length t ≡ length s.active) where
     -- ranks and places among the waiting
