@@ -134,7 +134,8 @@ all_low (x ∷ xs) h =
     ]
 
 pub base_low : (s : Situation) → IsSound s
-    → frozen_cost s.aerodrome.objective (frozen_landings s) + dearest_landing * length (waiting s) ≤ dearest_landing * length s.active
+    → frozen_cost s.aerodrome.objective (frozen_landings s) + dearest_landing * length (waiting s)
+    ≤ dearest_landing * length s.active
 base_low s sound = go s.aerodrome.objective
   where
     small : All HasSmallDelay s.active

@@ -7,5 +7,5 @@ use Rattle.cps_problem.proofs.problem.Problem.has_predecessor_from.Goals as goal
 pub returns : goal.returns
 returns c =
     let any = any_in_range (λ i. IsTrue (must_precede c.args.self.now.pairs i c.args.j)) _ _ _ c.any.result
-        (λ x b q k. search (rules, tests)) c.any.ensures.ran in
+    (λ x b q k. search (rules, tests)) c.any.ensures.ran in
     grind arith

@@ -19,15 +19,15 @@ one : (c : goal.In-Ok-true)
 one c =
     let set = c.self.invariant.1 c.if-self.false in
     few_read slice c.self.inside.reader c.read_byte_record.new.self c.self.inside.rest.now
-        (fields_of c.read_byte_record.new.row) c.self.inside.most c.in-Some.end set c.in-Some.ensures
-        (rw c.in-Ok-true.field-0-test at (c.in-Ok-true.ensures.reads set.trim set.ready))
-        (c.in-Ok-true.ensures.ready set.trim) c.in-Ok-true.ensures.flexible
+    (fields_of c.read_byte_record.new.row) c.self.inside.most c.in-Some.end set c.in-Some.ensures
+    (rw c.in-Ok-true.field-0-test at (c.in-Ok-true.ensures.reads set.trim set.ready))
+    (c.in-Ok-true.ensures.ready set.trim) c.in-Ok-true.ensures.flexible
 
 pub returns-in_default-clause-read : goal.returns-in_default-clause-read
 returns-in_default-clause-read c =
     let set = c.self.invariant.1 c.if-self.false in
     rw c.clear.ensures.fields (sym (rw c.if-self.false at c.self.view_is) ∙ wide_left slice c.self.inside.reader
-        c.self.inside.rest.now c.self.inside.most set c.in_default.ensures)
+    c.self.inside.rest.now c.self.inside.most set c.in_default.ensures)
 
 pub invariant_of-self-in-Ok-true : goal.invariant_of-self-in-Ok-true
 invariant_of-self-in-Ok-true c = (c.self.invariant.0, λ _. (one c).0)
@@ -39,6 +39,6 @@ pub returns-in-Ok-false-clause-read : goal.returns-in-Ok-false-clause-read
 returns-in-Ok-false-clause-read c =
     let set = c.self.invariant.1 c.if-self.false in
     let none = read_none slice c.self.inside.reader c.read_byte_record.new.self c.self.inside.rest.now
-        (fields_of c.read_byte_record.new.row) set (rw c.in-Ok-false.field-0-test at
-        (c.in-Ok-false.ensures.reads set.trim set.ready)) in
+    (fields_of c.read_byte_record.new.row) set (rw c.in-Ok-false.field-0-test at
+    (c.in-Ok-false.ensures.reads set.trim set.ready)) in
     search rules
