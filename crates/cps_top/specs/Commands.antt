@@ -120,19 +120,19 @@ Refuses Audit (aerodrome ∷ flights ∷ plan ∷ []) = RefusesAudit aerodrome f
 Refuses command contents = λ refusal. ⊥
 
 -- how many bytes it prints at most, by how many flights, events, trials and landing lines these contents hold
-abbrev pub most_bytes : Command → List (List ℕ) → ℕ
-most_bytes Plan (aerodrome ∷ flights ∷ []) = block_bound (flight_count flights)
-most_bytes Replay (aerodrome ∷ flights ∷ events ∷ []) = replay_bound (flight_count flights) (event_count events)
-most_bytes Certify (aerodrome ∷ flights ∷ []) = certify_bound aerodrome flights
-most_bytes Check (aerodrome ∷ flights ∷ certificate ∷ []) = check_bound
-most_bytes Effort (aerodrome ∷ flights ∷ events ∷ []) = effort_bound (event_count events)
-most_bytes (Trial seed n k) [] = trial_bound
-most_bytes First (aerodrome ∷ flights ∷ []) = block_bound (flight_count flights)
-most_bytes WhatIf (aerodrome ∷ flights ∷ trials ∷ []) = outcomes_bound (trial_count trials)
-most_bytes Audit (aerodrome ∷ flights ∷ plan ∷ []) = audit_bound (flight_count flights) (line_count plan)
-most_bytes command contents = 0
+abbrev pub text_bound : Command → List (List ℕ) → ℕ
+text_bound Plan (aerodrome ∷ flights ∷ []) = block_bound (flight_count flights)
+text_bound Replay (aerodrome ∷ flights ∷ events ∷ []) = replay_bound (flight_count flights) (event_count events)
+text_bound Certify (aerodrome ∷ flights ∷ []) = certify_bound aerodrome flights
+text_bound Check (aerodrome ∷ flights ∷ certificate ∷ []) = check_bound
+text_bound Effort (aerodrome ∷ flights ∷ events ∷ []) = effort_bound (event_count events)
+text_bound (Trial seed n k) [] = trial_bound
+text_bound First (aerodrome ∷ flights ∷ []) = block_bound (flight_count flights)
+text_bound WhatIf (aerodrome ∷ flights ∷ trials ∷ []) = outcomes_bound (trial_count trials)
+text_bound Audit (aerodrome ∷ flights ∷ plan ∷ []) = audit_bound (flight_count flights) (line_count plan)
+text_bound command contents = 0
 
 -- each text that a command may begin to print has at most so many
 abbrev pub TextsAreBoundedLaw : Type 0
 TextsAreBoundedLaw = (command : Command) (contents : List (List ℕ)) (puts : ℕ) (text : List ℕ)
-    → IsCommandInRange command → Stands command contents puts text → length text ≤ most_bytes command contents
+    → IsCommandInRange command → Stands command contents puts text → length text ≤ text_bound command contents

@@ -8,7 +8,7 @@ use Rattle.cps_outside.specs.SinkState.{SinkState}
 use Rattle.cps_top.specs.declared.commands.Command.{Command}
 use Rattle.endings.specs.declared.ending.Answer.{Answer}
 use Rattle.endings.specs.declared.ending.FilesFault.{FilesFault}
-use Rattle.cps_top.specs.Commands.{command_of, files_of, most_bytes, puts_of, Admits, Refuses, Stands}
+use Rattle.cps_top.specs.Commands.{command_of, files_of, puts_of, text_bound, Admits, Refuses, Stands}
 use Rattle.endings.specs.Lines.{answer_status}
 use Rattle.endings.specs.Loads.{FailsAt, IsTooLongAt, AsksForSome, FailsWithin}
 use Rattle.openings.specs.Follows.{Prints}
@@ -59,7 +59,7 @@ pub record Completes (words : List (List ℕ)) (old new : Outside) (status : ℕ
 
 -- there is room for as many bytes as the command prints at most over these contents
 abbrev pub HasRoom : Command → List (List ℕ) → SinkState → Type 0
-HasRoom command contents sink = most_bytes command contents ≤ sink.room
+HasRoom command contents sink = text_bound command contents ≤ sink.room
 
 -- there is room for every text that the command may begin to print over these contents
 abbrev pub HoldsEach : Command → List (List ℕ) → SinkState → Type 0

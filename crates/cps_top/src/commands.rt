@@ -179,7 +179,7 @@ pub(crate) fn perform<R: Threads + Sync, S: Sink, G: Gate + Sync>(
     }
 }
 
-/// How many bytes each command prints at most, whole or until it stops early, by what its files hold (`most_bytes`). The
+/// How many bytes each command prints at most, whole or until it stops early, by what its files hold (`text_bound`). The
 /// call does nothing: it tells its caller the law.
 pub fn texts_are_bounded()
     ensures { TextsAreBoundedLaw }
