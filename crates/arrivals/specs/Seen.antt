@@ -4,7 +4,9 @@ use Rattle.landing_rules.specs.Events as rules
 use Rattle.landing_rules.specs.Sound.{IsGoodEvent}
 use Rattle.arrivals.specs.declared.flight.Flight.{Flight}
 use Rattle.arrivals.specs.declared.event.Event.{Event}
-use Rattle.arrivals.specs.declared.event.Event.TheVariants.{Estimate, Cancel, Add, Close, Reopen, Clock}
+use Rattle.arrivals.specs.declared.event.Event.TheVariants.{Revise, Cancel, Add, Close, Reopen, Clock}
+use Rattle.arrivals.specs.declared.event.Revision.{Revision}
+use Rattle.arrivals.specs.declared.event.Revision.TheVariants.{Times}
 
 abbrev pub flight_of : Flight → flights.Flight
 flight_of f = record {
@@ -17,8 +19,11 @@ flight_of f = record {
   after = f.after;
 }
 
+abbrev pub revision_of : Revision → rules.Revision
+revision_of (Times eta windows) = rules.Times eta windows
+
 abbrev pub event_of : Event → rules.Event
-event_of (Estimate callsign eta windows) = rules.Estimate callsign eta windows
+event_of (Revise callsign revision) = rules.Revise callsign (revision_of revision)
 event_of (Cancel callsign) = rules.Cancel callsign
 event_of (Add flight) = rules.Add (flight_of flight)
 event_of (Close from to) = rules.Close (from, to)

@@ -2,11 +2,18 @@ use crate::flight::Flight;
 use cps_base::Callsign;
 use landing_windows::WindowSet;
 
+/// What an event may set anew of a flight that waits.
+#[derive(Clone, Copy)]
+pub enum Revision {
+    /// Its estimated second, from 0 to 172,799, and its windows.
+    Times(u32, WindowSet),
+}
+
 /// An event of the log. Seconds run from 0 to 172,799.
 #[derive(Drop)]
 pub enum Event {
-    /// The flight of this callsign has a new estimated second and new windows.
-    Estimate(Callsign, u32, WindowSet),
+    /// Something is set anew of the flight of this callsign.
+    Revise(Callsign, Revision),
     /// The flight of this callsign is gone.
     Cancel(Callsign),
     /// A new flight.

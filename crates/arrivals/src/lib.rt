@@ -11,7 +11,7 @@ mod shift;
 
 pub use aerodrome::Aerodrome;
 pub use after::After;
-pub use event::Event;
+pub use event::{Event, Revision};
 pub use flight::Flight;
 pub use frozen_list::{FrozenLanding, FrozenList};
 pub use passed_list::{PassedCount, PassedList};

@@ -3,7 +3,8 @@ use Rattle.std.specs.Prelude.{ℕ, List, codes, bytes_eq, Result, Ok, Err, if◌
 use Rattle.cps_base.specs.Answers.{◌>>=◌}
 use Rattle.csv_records.specs.Rows.{Fields}
 use Rattle.arrivals.specs.declared.event.Event.{Event}
-use Rattle.arrivals.specs.declared.event.Event.TheVariants.{Estimate, Cancel, Add, Close, Reopen, Clock}
+use Rattle.arrivals.specs.declared.event.Event.TheVariants.{Revise, Cancel, Add, Close, Reopen, Clock}
+use Rattle.arrivals.specs.declared.event.Revision.TheVariants.{Times}
 use Rattle.event_log.specs.declared.fault.Col.TheVariants.{Callsign, Category, Eta, Weight, Windows, After}
 use Rattle.event_log.specs.declared.fault.LogCause.{LogCause}
 use Rattle.event_log.specs.declared.fault.LogCause.TheVariants.{Kind}
@@ -18,7 +19,7 @@ estimate_in r = do
   no_weight ← empty_in Weight r
   windows ← windows_at r
   no_after ← empty_in After r
-  Ok (Estimate callsign eta windows)
+  Ok (Revise callsign (Times eta windows))
 
 unfoldable pub cancel_in : Fields → Result Event LogCause
 cancel_in r = do

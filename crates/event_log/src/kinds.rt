@@ -8,7 +8,7 @@ use crate::columns::{
     after_in, callsign_in, category_in, empty_in, second_in, span_in, weight_in, windows_in,
 };
 use crate::fault::{Col, LogCause};
-use arrivals::{Event, Flight};
+use arrivals::{Event, Flight, Revision};
 use csv::ByteRecord;
 
 // A new estimate.
@@ -23,7 +23,7 @@ fn estimate_in(row: &ByteRecord) -> Result<Event, LogCause>
     empty_in(row, Col::Weight)?;
     let windows = windows_in(row)?;
     empty_in(row, Col::After)?;
-    Ok(Event::Estimate(callsign, eta, windows))
+    Ok(Event::Revise(callsign, Revision::Times(eta, windows)))
 }
 
 // A flight that is gone.

@@ -1,4 +1,4 @@
--- The events of one flight keep a situation sound: it is cancelled, estimated again or added.
+-- The events of one flight keep a situation sound: it is cancelled, revised or added.
 use Rattle.std.proofs.lemmas.Grind.{common_steps}
 use Rattle.std.proofs.Common.{◌≡◌, ℕ, suc, ◌<◌, ◌≤◌, inl, inr, Bool, true, false, not, List, [], ◌∷◌, ◌++◌}
 use Rattle.std.proofs.Common.{length, map, filter, Option, Some, None, refl, sym, ap, subst, ◌∙◌, arith}
@@ -7,11 +7,12 @@ use Rattle.std.proofs.lemmas.Bool.{false≢true, cases_Bool, cases_lt, le-leb, l
 use Rattle.std.proofs.lemmas.Slice.Eq.{bytes_eq-Decides}
 use Rattle.std.proofs.lemmas.List.Kept.{AllPairs-filter}
 use Rattle.cps_base.specs.Limits.{most_flights, most_waiting}
-use Rattle.landing_rules.specs.Flights.{Active, Flight, Landing, Situation, Schedule, Callsign, Span, landing}
+use Rattle.landing_rules.specs.Flights.{Active, Flight, Landing, Situation, Schedule, Callsign, landing}
 use Rattle.landing_rules.specs.Flights.{is_waiting, waiting}
 use Rattle.landing_rules.specs.Rules.{lists}
-use Rattle.landing_rules.specs.Events.{Estimate, Cancel, Add, named, frozen_landings, refusal, estimated, newcomer}
-use Rattle.landing_rules.specs.Events.{situation_after, Duplicate, TooManyFlights, TooManyWaiting, PredecessorOfFrozen}
+use Rattle.landing_rules.specs.Events.{Revision, Revise, Cancel, Add, named, frozen_landings, refusal, revise, revised}
+use Rattle.landing_rules.specs.Events.{newcomer, situation_after, Duplicate, TooManyFlights, TooManyWaiting}
+use Rattle.landing_rules.specs.Events.{PredecessorOfFrozen, IsGoodRevision}
 use Rattle.landing_rules.specs.Sound.{IsSound, IsGoodFlight, IsGoodEvent}
 use Rattle.std.proofs.lemmas.List.{length_push, length-map}
 use Rattle.landing_joint.specs.shared.Events.{named_waits}
@@ -35,53 +36,55 @@ cancelled s plan c h =
     (λ f m. let r = in_frozen _ f m in rw r.4 (frozen_in _ r.0 r.1 (in_filter _ s.active r.0 r.2).0 r.3))
     (grind (arith, in_filter, filter_in)))
 
--- ---- estimate
+-- ---- revise
 
-pub estimate_callsign : (c : Callsign) (eta : ℕ) (windows : List Span) (a : Active)
-    → (estimated c eta windows a).flight.callsign ≡ a.flight.callsign
-estimate_callsign c eta windows a = elim (cases_Bool (named c a)) [ inl e ↦ rw e | inr e ↦ rw e ]
+revised_callsign : (r : Revision) (f : Flight) → (revised r f).callsign ≡ f.callsign
+revised_callsign r f = grind arith
 
-pub estimate_frozen : (c : Callsign) (eta : ℕ) (windows : List Span) (a : Active)
-    → (estimated c eta windows a).frozen ≡ a.frozen
-estimate_frozen c eta windows a = elim (cases_Bool (named c a)) [ inl e ↦ rw e | inr e ↦ rw e ]
+good_again : (r : Revision) (f : Flight) → IsGoodRevision r → IsGoodFlight f → IsGoodFlight (revised r f)
+good_again r f g h = grind arith
+
+pub revise_callsign : (c : Callsign) (r : Revision) (a : Active) → (revise c r a).flight.callsign ≡ a.flight.callsign
+revise_callsign c r a = elim (cases_Bool (named c a)) [ inl e ↦ rw e (revised_callsign r a.flight) | inr e ↦ rw e ]
+
+pub revise_frozen : (c : Callsign) (r : Revision) (a : Active) → (revise c r a).frozen ≡ a.frozen
+revise_frozen c r a = elim (cases_Bool (named c a)) [ inl e ↦ rw e | inr e ↦ rw e ]
 
 callsigns_mapped : (f : Active → Active) → ((a : Active) → (f a).flight.callsign ≡ a.flight.callsign)
     → (xs : List Active) → callsigns (map f xs) ≡ callsigns xs
 callsigns_mapped f h [] = refl
 callsigns_mapped f h (x ∷ xs) = search (callsigns, callsigns_mapped f h xs)
 
-pub re_estimated : (s : Situation) (plan : Option Schedule) (c : Callsign) (eta : ℕ) (windows : List Span)
-    → IsSound s → IsGoodEvent (Estimate c eta windows) → refusal s (Estimate c eta windows) ≡ None
-    → IsSound (situation_after s plan (Estimate c eta windows))
-re_estimated s plan c eta windows h good ok =
-    let new = situation_after s plan (Estimate c eta windows) in
-    let f = estimated c eta windows in
+pub revised_again : (s : Situation) (plan : Option Schedule) (c : Callsign) (r : Revision) → IsSound s
+    → IsGoodRevision r → refusal s (Revise c r) ≡ None → IsSound (situation_after s plan (Revise c r))
+revised_again s plan c r h good ok =
+    let new = situation_after s plan (Revise c r) in
+    let f = revise c r in
     let wait : (a : Active) → is_waiting (f a) ≡ true → is_waiting a ≡ true =
-    λ a e. ap is_none (sym (estimate_frozen c eta _ a)) ∙ e in
-    sound_again s new h refl (rw (callsigns_mapped f (estimate_callsign c eta _) _) (differ_of _ h.callsigns))
+    λ a e. ap is_none (sym (revise_frozen c r a)) ∙ e in
+    sound_again s new h refl (rw (callsigns_mapped f (revise_callsign c r) _) (differ_of _ h.callsigns))
     (omega (arith, length-map s.active f, h.few_active)) (let l =
     fewer_filtered is_waiting _ f s.active wait in omega (arith, h.few_waiting)) h.few_closures
-    (λ a m. let r = in_map f _ a m in rw r.2 (well r.0 (each_of s h r.0 r.1)))
-    (fewer_frozen s new h refl refl (omega arith) (λ g m. let r = in_frozen _ g m in let q = in_map f _ r.0 r.2 in
-    let was = sym (estimate_frozen c eta _ q.0) ∙ ap (λ (z : Active). z.frozen) (sym q.2) ∙ r.3 in
-    subst (λ z. Member z (frozen_landings s)) (ap (λ z. landing z r.1) (sym (q.2 ∙ still q.0 q.1 r.1 was)) ∙ sym r.4)
-    (frozen_in _ q.0 r.1 q.1 was))
-    (λ a m. let r = in_filter _ _ a m in let q = in_map f _ a r.0 in (
+    (λ a m. let q = in_map f _ a m in rw q.2 (well q.0 (each_of s h q.0 q.1)))
+    (fewer_frozen s new h refl refl (omega arith) (λ g m. let p = in_frozen _ g m in let q = in_map f _ p.0 p.2 in
+    let was = sym (revise_frozen c r q.0) ∙ ap (λ (z : Active). z.frozen) (sym q.2) ∙ p.3 in
+    subst (λ z. Member z (frozen_landings s)) (ap (λ z. landing z p.1) (sym (q.2 ∙ still q.0 q.1 p.1 was)) ∙ sym p.4)
+    (frozen_in _ q.0 p.1 q.1 was))
+    (λ a m. let p = in_filter _ _ a m in let q = in_map f _ a p.0 in (
       q.0,
-      filter_in _ s.active q.0 q.1 (wait q.0 (ap is_waiting (sym q.2) ∙ r.1)),
-      ap (λ (z : Active). z.flight.callsign) q.2 ∙ estimate_callsign c eta _ q.0,
+      filter_in _ s.active q.0 q.1 (wait q.0 (ap is_waiting (sym q.2) ∙ p.1)),
+      ap (λ (z : Active). z.flight.callsign) q.2 ∙ revise_callsign c r q.0,
     )))
   where
     well : (a : Active) → IsGoodFlight a.flight × (a.passed ≤ s.aerodrome.k)
-        × (s.aerodrome.carry ≡ false → a.passed ≡ 0) → IsGoodFlight (estimated c eta windows a).flight
-        × ((estimated c eta windows a).passed ≤ s.aerodrome.k)
-        × (s.aerodrome.carry ≡ false → (estimated c eta windows a).passed ≡ 0)
+        × (s.aerodrome.carry ≡ false → a.passed ≡ 0) → IsGoodFlight (revise c r a).flight
+        × ((revise c r a).passed ≤ s.aerodrome.k) × (s.aerodrome.carry ≡ false → (revise c r a).passed ≡ 0)
     well a w = elim (cases_Bool (named c a)) [
-      | inl e ↦ rw e (search)
+      | inl e ↦ rw e (good_again r a.flight good w.0, w.1, w.2)
       | inr e ↦ rw e w
     ]
 
-    still : (a : Active) → Member a s.active → (t : ℕ) → a.frozen ≡ Some t → estimated c eta windows a ≡ a
+    still : (a : Active) → Member a s.active → (t : ℕ) → a.frozen ≡ Some t → revise c r a ≡ a
     still a m t e = grind (arith, cases_Bool, named_waits)
 
 -- ---- add

@@ -9,11 +9,11 @@ use Rattle.std.proofs.lemmas.Cmp.{tied_itself}
 use Rattle.std.proofs.lemmas.List.Elements.{All-head, All-tail}
 use Rattle.std.proofs.lemmas.Slice.Eq.{bytes_eq-Decides}
 use Rattle.std.proofs.lemmas.Option.{same_Some}
-use Rattle.landing_rules.specs.Flights.{Active, Aerodrome, Callsign, Flight, Schedule, Situation, Span}
+use Rattle.landing_rules.specs.Flights.{Active, Aerodrome, Callsign, Flight, Schedule, Situation}
 use Rattle.landing_rules.specs.Flights.{waiting}
 use Rattle.landing_rules.specs.Rules.{arrival_cmp, IsFeasible}
-use Rattle.landing_rules.specs.Events.{Event, Estimate, Cancel, Add, Clock, Refusal, State, Step, Answered, Run}
-use Rattle.landing_rules.specs.Events.{estimated, named, refusal, situation_after}
+use Rattle.landing_rules.specs.Events.{Event, Revision, Revise, Cancel, Add, Clock, Refusal, State, Step, Answered, Run}
+use Rattle.landing_rules.specs.Events.{revise, named, refusal, situation_after}
 use Rattle.landing_rules.specs.Sound.{IsSound, IsSoundState, IsGoodEvent}
 use Rattle.landing_rules.specs.shared.Counting.{cases, Member}
 use Rattle.landing_rules.specs.shared.Ranks.{arrival_total, level-callsign}
@@ -23,7 +23,7 @@ use Rattle.landing_joint.specs.PassedOver.{passing_in_run, StepCountsLaw, FewPas
 use Rattle.landing_joint.specs.PassedOver.{FewPassFirstLaw, FewPassAnyoneLaw}
 use Rattle.landing_joint.specs.shared.Events.{aerodrome_stays, named_is}
 use Rattle.landing_joint.specs.shared.Members.{differ_of, one_of_name}
-use Rattle.landing_joint.proofs.FlightSteps.{estimate_callsign, estimate_frozen}
+use Rattle.landing_joint.proofs.FlightSteps.{revise_callsign, revise_frozen}
 use Rattle.landing_joint.proofs.StepLaws.{event_keeps_sound, step_keeps_sound}
 use Rattle.landing_joint.proofs.PassedOver.{found, is_found, some_flight, clock_counts, clock_counts_exactly}
 use Rattle.landing_rules.specs.shared.Members.{in_filter, filter_in, in_map, in_push, none_any, all_at, all_from}
@@ -101,14 +101,13 @@ same_cancelled s plan c sound x a m n e =
     let w = in_filter _ _ x m in
     ap (λ (z : Active). z.passed) (one_waits s sound x a (filter_in _ s.active x (in_filter _ _ x w.0).0 w.1) n (sym e))
 
-estimate_passed : (c : Callsign) (eta : ℕ) (windows : List Span) (a : Active)
-    → (estimated c eta windows a).passed ≡ a.passed
-estimate_passed c eta windows a = elim (cases_Bool (named c a)) [ inl e ↦ rw e | inr e ↦ rw e ]
+revise_passed : (c : Callsign) (r : Revision) (a : Active) → (revise c r a).passed ≡ a.passed
+revise_passed c r a = elim (cases_Bool (named c a)) [ inl e ↦ rw e | inr e ↦ rw e ]
 
-same_estimated : (s : Situation) (plan : Option Schedule) (c : Callsign) (eta : ℕ) (windows : List Span)
-    → IsSound s → SameCounts s (situation_after s plan (Estimate c eta windows))
-same_estimated s plan c eta windows sound x a m n e =
-    grind (arith, in_filter, in_map, estimate_frozen, estimate_callsign, estimate_passed, one_waits, filter_in)
+same_revised : (s : Situation) (plan : Option Schedule) (c : Callsign) (r : Revision) → IsSound s
+    → SameCounts s (situation_after s plan (Revise c r))
+same_revised s plan c r sound x a m n e =
+    grind (arith, in_filter, in_map, revise_frozen, revise_callsign, revise_passed, one_waits, filter_in)
 
 same_added : (s : Situation) (plan : Option Schedule) (f : Flight) → IsSound s → refusal s (Add f) ≡ None
     → SameCounts s (situation_after s plan (Add f))
@@ -138,7 +137,7 @@ by_kind : (s : Situation) (P : Option Schedule → Event → Type 0) → IsSound
     → ((f : Flight) → passing_by_event (state_of s plan) e f ≡ 0) → P plan e) →
     ((t : Schedule) (now : ℕ) → P (Some t) (Clock now))
     → (plan : Option Schedule) (e : Event) → refusal s e ≡ None → P plan e
-by_kind s P sound still clock plan (Estimate d eta windows) ok = search same_estimated
+by_kind s P sound still clock plan (Revise d r) ok = search same_revised
 by_kind s P sound still clock plan (Cancel d) ok = still plan (Cancel d) (same_cancelled s plan d sound) (λ f. refl)
 by_kind s P sound still clock plan (Add x) ok = still plan (Add x) (same_added s plan x sound ok) (λ f. refl)
 by_kind s P sound still clock (Some t) (Clock now) ok = clock t now

@@ -9,7 +9,7 @@ use Rattle.cps_base.specs.Limits.{most_closures}
 use Rattle.landing_rules.specs.Flights.{Landing, Situation, Schedule, Span, is_waiting, horizon}
 use Rattle.landing_rules.specs.Rules.{is_open, is_shut}
 use Rattle.landing_rules.specs.Events.{Close, Reopen, frozen_landings, refusal, without_first, same_span}
-use Rattle.landing_rules.specs.Events.{situation_after, CoversFrozen, TooManyClosures, Estimate, Cancel, Add}
+use Rattle.landing_rules.specs.Events.{situation_after, CoversFrozen, TooManyClosures, Revise, Cancel, Add}
 use Rattle.landing_rules.specs.Events.{Answered, IsPlanShown}
 use Rattle.landing_rules.specs.Sound.{IsSound, IsSoundState, IsGoodEvent}
 use Rattle.std.proofs.lemmas.List.{length_push}
@@ -22,7 +22,7 @@ use Rattle.landing_rules.specs.shared.Members.{none_found}
 use Rattle.std.proofs.lemmas.List.Elements.{All-cons, All-head, All-tail}
 use Rattle.landing_joint.specs.StepLaws.{EventKeepsSoundLaw, StepKeepsSoundLaw, RunKeepsSoundLaw}
 use Rattle.landing_joint.proofs.Clock.{clock_keeps_sound}
-use Rattle.landing_joint.proofs.FlightSteps.{cancelled, re_estimated, added}
+use Rattle.landing_joint.proofs.FlightSteps.{cancelled, revised_again, added}
 
 -- ---- reopen
 
@@ -83,7 +83,7 @@ closed s plan span h ok =
 -- ---- all kinds
 
 pub event_keeps_sound : EventKeepsSoundLaw
-event_keeps_sound s plan (Estimate c eta windows) sound good feasible ok = re_estimated s plan c eta _ sound good ok
+event_keeps_sound s plan (Revise c r) sound good feasible ok = revised_again s plan c r sound good ok
 event_keeps_sound s plan (Cancel c) sound good feasible ok = cancelled s plan c sound
 event_keeps_sound s plan (Add f) sound good feasible ok = added s plan f sound good ok
 event_keeps_sound s plan (Close span) sound good feasible ok = closed s plan _ sound ok

@@ -19,12 +19,12 @@ use Rattle.std.proofs.lemmas.Grind.{same_number_lists}
 use Rattle.std.proofs.Math.Bool.{not-not}
 use Rattle.std.proofs.Math.Seq.{take-append_seam}
 use Rattle.wake_table.specs.Table.{separation}
-use Rattle.landing_rules.specs.Flights.{Active, Aerodrome, Callsign, Landing, Schedule, Situation, Span, horizon}
+use Rattle.landing_rules.specs.Flights.{Active, Aerodrome, Callsign, Landing, Schedule, Situation, horizon}
 use Rattle.landing_rules.specs.Flights.{is_waiting, landing, landings, waiting}
 use Rattle.landing_rules.specs.Rules.{IsFeasible, IsFrozenKept, waits}
-use Rattle.landing_rules.specs.Events.{Event, Estimate, Cancel, Add, Clock, after_clock, estimated, freezes}
-use Rattle.landing_rules.specs.Events.{frozen_landings, in_landing_order, insert_landing, named, newcomer, refusal}
-use Rattle.landing_rules.specs.Events.{situation_after}
+use Rattle.landing_rules.specs.Events.{Event, Revision, Revise, Cancel, Add, Clock, after_clock, revise, revised}
+use Rattle.landing_rules.specs.Events.{freezes, frozen_landings, in_landing_order, insert_landing, named, newcomer}
+use Rattle.landing_rules.specs.Events.{refusal, situation_after}
 use Rattle.landing_rules.specs.Problem.{by_rank, joined, joined_second}
 use Rattle.landing_rules.specs.Sound.{IsSound}
 use Rattle.landing_rules.specs.Text.{ShownLanding, shown_landing, shown_plan}
@@ -234,20 +234,18 @@ waiting_shown s u sound e =
 
 -- ---- no event but a clock moves a frozen landing
 
-frozen_estimated : (c : Callsign) (eta : ℕ) (windows : List Span) (xs : List Active)
+frozen_revised : (c : Callsign) (r : Revision) (xs : List Active)
     → ((a : Active) → Member a xs → named c a ≡ true → a.frozen ≡ None)
-    → frozen_of (map (estimated c eta windows) xs) ≡ frozen_of xs
-frozen_estimated c eta windows [] h = refl
-frozen_estimated c eta windows (x ∷ xs) h = ap₂ (λ o fs. cons_option o fs) here
-    (frozen_estimated c eta windows xs (λ a m. h a (inr m)))
+    → frozen_of (map (revise c r) xs) ≡ frozen_of xs
+frozen_revised c r [] h = refl
+frozen_revised c r (x ∷ xs) h = ap₂ (λ o fs. cons_option o fs) here (frozen_revised c r xs (λ a m. h a (inr m)))
   where
-    with_times : Active
-    with_times = record x { flight = record x.flight { eta = eta; windows = windows } }
+    set_anew : Active
+    set_anew = record x { flight = revised r x.flight }
 
-    here : option_map (landing (estimated c eta windows x)) (estimated c eta windows x).frozen ≡ option_map
-        (landing x) x.frozen
+    here : option_map (landing (revise c r x)) (revise c r x).frozen ≡ option_map (landing x) x.frozen
     here = elim (cases_Bool (named c x)) [
-      | inl e ↦ (let none = h x (inl refl) e in rw e (ap (option_map (landing with_times)) none
+      | inl e ↦ (let none = h x (inl refl) e in rw e (ap (option_map (landing set_anew)) none
           ∙ sym (ap (option_map (landing x)) none)))
       | inr e ↦ rw e refl
     ]
@@ -354,9 +352,8 @@ still s next t same h = rw same h
 pub next_begins : ClockKeepsPlanLaw → (s : Situation) (t : Schedule) (e : Event) → IsSound s
     → IsFeasible s t → refusal s e ≡ None → IsSound (situation_after s (Some t) e) →
     BeginsWithFrozen (situation_after s (Some t) e) (shown_plan s t)
-next_begins law s t (Estimate c eta windows) sound keeps ok next = still s
-    (record s { active = map (estimated c eta windows) s.active }) t
-    (frozen_estimated c eta windows s.active (named_waits s c sound ok)) (begins s t sound keeps)
+next_begins law s t (Revise c r) sound keeps ok next = still s (record s { active = map (revise c r) s.active }) t
+    (frozen_revised c r s.active (named_waits s c sound ok)) (begins s t sound keeps)
 next_begins law s t (Cancel c) sound keeps ok next = still s
     (record s { active = filter (λ a. not (named c a)) s.active }) t
     (frozen_cancelled c s.active (named_waits s c sound ok)) (begins s t sound keeps)

@@ -4,7 +4,7 @@ use Rattle.std.proofs.Common.{◌≡◌, ◌≢◌, ℕ, zero, suc, ◌<◌, fal
 use Rattle.std.proofs.Common.{sym, ap, ◌∙◌, arith}
 use Rattle.std.specs.Prelude.{AllPairs}
 use Rattle.std.proofs.lemmas.List.{length-map, get_or-map}
-use Rattle.landing_rules.specs.Flights.{Active, Callsign, Flight, Span}
+use Rattle.landing_rules.specs.Flights.{Active, Callsign, Flight}
 use Rattle.landing_rules.specs.Events.{named, opening_flight}
 use Rattle.arrivals.specs.declared.aerodrome.Aerodrome.{Aerodrome}
 use Rattle.arrivals.specs.declared.flight.Flight as files
@@ -41,9 +41,6 @@ module _ (c : Callsign) (g : Active → Active) where
       → map name_of xs ≡ map name_of (map at_named xs)
   names_kept keeps [] = refl
   names_kept keeps (x ∷ xs) = grind (arith, common_steps, names_kept keeps xs)
-
-abbrev pub with_estimate : ℕ → List Span → Active → Active
-with_estimate eta windows a = record a { flight = record a.flight { eta = eta; windows = windows } }
 
 -- ---- a clock event
 

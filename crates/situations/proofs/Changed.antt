@@ -1,30 +1,21 @@
 -- What a change that was made shows: the situation after its event, and the one before it.
-use Rattle.std.proofs.Common.{rules, ◌≡◌, ℕ, ◌-◌, true, not, List, length, map, filter, slice_get, Option, Some, Vec}
-use Rattle.std.proofs.Common.{Global, sym, ap, ◌∙◌, arith}
+use Rattle.std.proofs.Common.{◌≡◌, ℕ, ◌-◌, true, not, List, length, filter, slice_get, Option, Some, Vec, Global, sym}
+use Rattle.std.proofs.Common.{ap, ◌∙◌, arith}
 use Rattle.std.proofs.lemmas.Grind.{common_steps}
-use Rattle.std.specs.Prelude.{find}
 use Rattle.std.specs.List.{IsDistinct}
 use Rattle.std.specs.Map.{keys_of, values_of}
 use Rattle.std.specs.Str.{bytes_eq}
 use Rattle.std.proofs.lemmas.List.{length-map}
 use Rattle.indexmap.specs.IndexMap.{move_index}
 use Rattle.landing_rules.specs.Flights.{Active, Callsign, Situation, Span, landings}
-use Rattle.landing_rules.specs.Events.{named, estimated, active_after_clock}
+use Rattle.landing_rules.specs.Events.{named, active_after_clock}
 use Rattle.situations.specs.declared.situation.Fixed.{Fixed}
-use Rattle.situations.specs.declared.change.Change.TheVariants.{Cancel, Estimate, Freeze}
+use Rattle.situations.specs.declared.change.Change.TheVariants.{Cancel, Freeze}
 use Rattle.situations.specs.Changes.{IsClock, IsOf, counts_of}
 use Rattle.situations.specs.Seen.{AreApart, situation_of}
 use Rattle.situations.proofs.Freezing.{waiting_back}
 use Rattle.situations.proofs.Named.{own_count}
-use Rattle.situations.proofs.Keyed.{Entry, Keyed, estimated_back, keyed_apart, moved_back, moved_long, one_gone}
-use Rattle.situations.proofs.Keyed.{values_moved}
-
-pub estimated_is : (s now : Situation) (c : Callsign) (eta : ℕ) (windows : List Span) (eta' : ℕ)
-    (windows' : List Span) (a : Active) → AreApart s.active → find (named c) s.active ≡ Some a →
-    now ≡ record s { active = map (estimated c eta windows) s.active } → eta' ≡ a.flight.eta
-    → windows' ≡ a.flight.windows →
-    IsOf s (record s { active = map (estimated c eta windows) s.active }) (Estimate c eta' windows') now
-estimated_is s now c eta windows eta' windows' a apart found is e w = search (rules, estimated_back)
+use Rattle.situations.proofs.Keyed.{Entry, Keyed, keyed_apart, moved_back, moved_long, one_gone, values_moved}
 
 pub cancelled_is : (f : Fixed) (closures : List Span) (clock : Option ℕ) (c : Callsign) (es fs : List Entry)
     (place : ℕ) (a : Active) → Keyed es → IsDistinct bytes_eq (keys_of es) →

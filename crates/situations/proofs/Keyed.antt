@@ -1,7 +1,7 @@
 -- What a look-up by callsign finds, and what a change of the map makes of the flights in order of arrival.
 use Rattle.std.proofs.Common.{rules, ◌≡◌, ◌≢◌, ℕ, zero, suc, ◌+◌, ◌-◌, ◌<◌, Bool, true, false, cond, not, List, [], ◌∷◌}
 use Rattle.std.proofs.Common.{◌++◌, ◌||◌, ◌&&◌, length, map, filter, take, set, get_or, insert, remove, slice_get}
-use Rattle.std.proofs.Common.{Option, Some, None, is_some, refl, sym, ap, ◌∙◌, arith}
+use Rattle.std.proofs.Common.{Option, Some, None, is_some, refl, sym, ap, subst, ◌∙◌, arith}
 use Rattle.std.proofs.lemmas.Grind.{common_steps}
 use Rattle.std.specs.Prelude.{AllPairs, find}
 use Rattle.std.specs.List.{IsDistinct, list_any}
@@ -16,15 +16,15 @@ use Rattle.indexmap.specs.IndexMap.{move_index, set_value_at}
 use Rattle.indexmap.proofs.MoveLemmas.{push_moved}
 use Rattle.indexmap.proofs.RemoveLemmas.{moved_last}
 use Rattle.indexmap.proofs.SetLemmas.{map-move}
-use Rattle.landing_rules.specs.Flights.{Active, Callsign, Span}
-use Rattle.landing_rules.specs.Events.{named, estimated, look_up, newcomer}
+use Rattle.landing_rules.specs.Flights.{Active, Callsign}
+use Rattle.landing_rules.specs.Events.{Revision, named, revise, revised, look_up, newcomer}
 use Rattle.arrivals.specs.declared.aerodrome.Aerodrome.{Aerodrome}
 use Rattle.arrivals.specs.declared.flight.Flight as files
 use Rattle.arrivals.specs.Seen.{flight_of}
 use Rattle.situations.specs.Named.{with_count, with_second}
 use Rattle.situations.specs.Opened.{counts_in, newcomers, opened, seconds_in}
 use Rattle.situations.specs.Seen.{AreApart}
-use Rattle.situations.proofs.Apart.{at_named, name_of, others, tail_apart, with_estimate}
+use Rattle.situations.proofs.Apart.{at_named, name_of, other, others, tail_apart}
 use Rattle.situations.proofs.Callsigns.{bytes_eq-true}
 
 abbrev pub Entry : Type 0
@@ -128,30 +128,38 @@ module _ (c : Callsign) (g : Active → Active) where
       values_of fs ≡ map (at_named c g) (values_of es)
   changed_one es fs a x h distinct n new e = search (rules, one_set, keyed_apart)
 
--- the estimate that it had gives the flight back
-pub estimated_back : (c : Callsign) (eta : ℕ) (windows : List Span) (xs : List Active) (a : Active)
-    → AreApart xs → find (named c) xs ≡ Some a →
-    map (estimated c a.flight.eta a.flight.windows) (map (estimated c eta windows) xs) ≡ xs
-estimated_back c eta windows [] a apart f = refl
-estimated_back c eta windows (x ∷ xs) a apart f =
-    go (named c x) refl f (estimated_back c eta windows xs a (tail_apart x xs apart))
+-- what is set back of the flight of the callsign, where the change leaves its callsign
+set_back : (c : Callsign) (g h : Active → Active) → ((a : Active) → name_of a ≡ name_of (g a)) → (xs : List Active)
+    (a : Active) → AreApart xs → find (named c) xs ≡ Some a → h (g a) ≡ a
+    → map (at_named c h) (map (at_named c g) xs) ≡ xs
+set_back c g h names [] a apart f e = refl
+set_back c g h names (x ∷ xs) a apart f e = go (named c x) refl f
+    (set_back c g h names xs a (tail_apart x xs apart))
   where
-    back : Active → Active
-    back y = estimated c a.flight.eta a.flight.windows y
-
     go : (b : Bool) → named c x ≡ b → cond b (Some x) (find (named c) xs) ≡ Some a
-        → (find (named c) xs ≡ Some a → map back (map (estimated c eta windows) xs) ≡ xs) →
-        back (estimated c eta windows x) ∷ map back (map (estimated c eta windows) xs) ≡ x ∷ xs
-    go true e g ih =
-        let none = none_behind c x xs apart e in
-        ap (λ y. y ∷ map back (map (estimated c eta windows) xs))
-        (ap (λ b. back (cond b (with_estimate eta windows x) x)) e
-        ∙ ap (λ b. cond b (with_estimate a.flight.eta a.flight.windows (with_estimate eta windows x))
-        (with_estimate eta windows x)) e
-        ∙ ap (λ v. with_estimate v.flight.eta v.flight.windows (with_estimate eta windows x)) (sym (same_Some x a g)))
-        ∙ ap (λ l. x ∷ map back l) (others c (with_estimate eta windows) xs none)
-        ∙ ap (λ l. x ∷ l) (others c (with_estimate a.flight.eta a.flight.windows) xs none)
-    go false e g ih = search rules
+        → (find (named c) xs ≡ Some a → h (g a) ≡ a → map (at_named c h) (map (at_named c g) xs) ≡ xs)
+        → map (at_named c h) (map (at_named c g) (x ∷ xs)) ≡ x ∷ xs
+    go true is m ih =
+        let none = none_behind c x xs apart is in
+        let there : named c (g x) ≡ true = ap (λ n. bytes_eq n c) (sym (names x)) ∙ is in
+        let back : h (g x) ≡ x = subst (λ y. h (g y) ≡ y) (sym (same_Some x a m)) e in
+        ap (λ y. map (at_named c h) (y ∷ map (at_named c g) xs)) (ap (λ b. cond b (g x) x) is)
+        ∙ ap (λ y. y ∷ map (at_named c h) (map (at_named c g) xs)) (ap (λ b. cond b (h (g x)) (g x)) there ∙ back)
+        ∙ ap (λ l. x ∷ map (at_named c h) l) (others c g xs none) ∙ ap (λ l. x ∷ l) (others c h xs none)
+    go false is m ih =
+        ap (λ y. map (at_named c h) (y ∷ map (at_named c g) xs)) (other c g x is)
+        ∙ ap (λ y. y ∷ map (at_named c h) (map (at_named c g) xs)) (other c h x is) ∙ ap (λ l. x ∷ l) (ih m e)
+
+pub revision_keeps_name : (r : Revision) (a : Active) → name_of a ≡ (revised r a.flight).callsign
+revision_keeps_name r a = grind arith
+
+-- what was revised is revised back
+pub revised_back : (c : Callsign) (r back : Revision) (xs : List Active) (a : Active) → AreApart xs
+    → find (named c) xs ≡ Some a → revised back (revised r a.flight) ≡ a.flight
+    → map (revise c back) (map (revise c r) xs) ≡ xs
+revised_back c r back xs a apart f e =
+    set_back c (λ x. record x { flight = revised r x.flight }) (λ x. record x { flight = revised back x.flight })
+    (revision_keeps_name r) xs a apart f (ap (λ f. record a { flight = f }) e)
 
 -- ---- a flight less
 

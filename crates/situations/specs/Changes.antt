@@ -3,10 +3,11 @@ use Rattle.std.specs.Prelude.{◌≡◌, ℕ, ◌-◌, ◌<◌, ◌≤◌, List,
 use Rattle.indexmap.specs.IndexMap.{move_index}
 use Rattle.landing_rules.specs.Flights.{Active, Callsign, Situation, is_waiting}
 use Rattle.landing_rules.specs.Rules.{last_second}
-use Rattle.landing_rules.specs.Events.{estimated, look_up}
+use Rattle.landing_rules.specs.Events.{revise, look_up}
+use Rattle.arrivals.specs.Seen.{revision_of}
 use Rattle.situations.specs.Named.{waiting_again}
 use Rattle.situations.specs.declared.change.Change.{Change}
-use Rattle.situations.specs.declared.change.Change.TheVariants.{Estimate, Cancel, Add, Closure, Clock, Freeze}
+use Rattle.situations.specs.declared.change.Change.TheVariants.{Revise, Cancel, Add, Closure, Clock, Freeze}
 
 -- the flights that wait, each with its count
 abbrev pub counts_of : List Active → List (Callsign × ℕ)
@@ -17,7 +18,7 @@ but_last s = record s { active = take (length s.active - 1) s.active }
 
 -- the situation after the event: a flight that is cancelled stands last until the change is kept
 abbrev pub after : Change → Situation → Situation
-after (Estimate c eta windows) s = s
+after (Revise c r) s = s
 after (Cancel place) s = but_last s
 after Add s = s
 after (Closure closures) s = s
@@ -26,7 +27,7 @@ after (Freeze clock counts) s = s
 
 -- the situation before the event
 abbrev pub before : Change → Situation → Situation
-before (Estimate c eta windows) s = record s { active = map (estimated c eta windows) s.active }
+before (Revise c r) s = record s { active = map (revise c (revision_of r)) s.active }
 before (Cancel place) s = record s { active = move_index s.active (length s.active - 1) place }
 before Add s = but_last s
 before (Closure closures) s = record s { closures = closures }
@@ -39,7 +40,7 @@ IsClock clock = MatchOption clock ⊤ (λ now. now ≤ last_second)
 
 -- the change can be taken back there
 abbrev pub CanGoBack : Change → Situation → Type 0
-CanGoBack (Estimate c eta windows) s = ⊤
+CanGoBack (Revise c r) s = ⊤
 CanGoBack (Cancel place) s = place < length s.active
 CanGoBack Add s = ⊤
 CanGoBack (Closure closures) s = ⊤

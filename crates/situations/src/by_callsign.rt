@@ -1,16 +1,16 @@
 // The flights in the system by callsign: the map, look-ups, and changes of the flight that has a callsign.
-ghost use Rattle.std.specs.Prelude.{◌≡◌, ◌≢◌, None, Some, AllPairs, IfOk, find, is_some, map, option_map};
+ghost use Rattle.std.specs.Prelude.{◌≡◌, ◌≢◌, None, Some, AllPairs, IfOk, IfSome, find, is_some, map, option_map};
 ghost use Rattle.std.specs.List.{list_any};
-ghost use Rattle.landing_rules.specs.Events.{named, estimated};
+ghost use Rattle.landing_rules.specs.Events.{named, revise, revised};
+ghost use Rattle.arrivals.specs.Seen.{revision_of};
 ghost use Rattle.situations.specs.Opened.{newcomers};
 ghost use Rattle.situations.specs.Named.{counted, frozen_so};
 ghost use Rattle.situations.specs.Seen.{AreApart};
 
 use crate::{Active, Situation};
-use arrivals::Flight;
+use arrivals::{Flight, Revision};
 use cps_base::Callsign;
 use indexmap::IndexMap;
-use landing_windows::WindowSet;
 use std::alloc::{AllocError, Global};
 
 /// The flights by callsign, in the order of their file. Each waits, and none has passed it.
@@ -28,18 +28,22 @@ pub(crate) fn by_callsign(
     Ok(active)
 }
 
-// The flight has this estimate and these windows. It gives those that it had.
-fn estimate(active: &mut Active, eta: u32, windows: &WindowSet) -> (u32, WindowSet)
+// Sets this anew of the flight. It gives what sets it back.
+fn revise(active: &mut Active, revision: Revision) -> Revision
     ensures new { active.new ≡ record active.old {
-      flight = record active.old.flight
-          { eta = eta; windows = windows.now };
+      flight = revised (revision_of revision) active.old.flight;
     } }
-    ensures old { result ≡ (active.old.flight.eta, active.old.flight.windows) }
+    ensures back { revised (revision_of result) (revised (revision_of revision) active.old.flight)
+        ≡ active.old.flight }
 {
-    let old = (active.flight.eta, active.flight.windows);
-    active.flight.eta = eta;
-    active.flight.windows = *windows;
-    old
+    match revision {
+        Revision::Times(eta, windows) => {
+            let back = Revision::Times(active.flight.eta, active.flight.windows);
+            active.flight.eta = eta;
+            active.flight.windows = windows;
+            back
+        }
+    }
 }
 
 // The flight is frozen at this second, or waits.
@@ -78,24 +82,19 @@ impl Situation {
         self.find(callsign).is_some()
     }
 
-    /// The flight of the callsign has this estimate and these windows. It gives those that it had.
-    pub(crate) fn estimate(
-        &mut self,
-        callsign: Callsign,
-        eta: u32,
-        windows: &WindowSet,
-    ) -> Option<(u32, WindowSet)>
+    /// Sets this anew of the flight of the callsign. It gives what sets it back.
+    pub(crate) fn revise(&mut self, callsign: Callsign, revision: Revision) -> Option<Revision>
         ensures new { self.new ≡ record self.old {
           active = map
-              (estimated callsign eta windows.now) self.old.active;
+              (revise callsign (revision_of revision)) self.old.active;
         } }
-        ensures old { result ≡ option_map (λ a. (a.flight.eta, a.flight.windows))
-            (find (named callsign) self.old.active) }
-        ensures apart { AreApart self.old.active }
+        ensures found { is_some result ≡ is_some (find (named callsign) self.old.active) }
+        ensures back { IfSome result (λ back. map (revise callsign (revision_of back))
+            self.new.active ≡ self.old.active) }
     {
         match self.active.get_mut(&callsign) {
             None => None,
-            Some(active) => Some(estimate(active, eta, windows)),
+            Some(active) => Some(revise(active, revision)),
         }
     }
 

@@ -2,24 +2,24 @@
 ghost use Rattle.std.specs.Prelude.{◌≡◌, ◌+◌, ◌-◌, ◌<◌, ◌≤◌, ◌++◌, [], ◌∷◌, true, false, not, None, filter, find, is_some, length, map, option_map, take, IfSome, IfOk, OnErr, OnOk};
 ghost use Rattle.std.specs.List.{list_any};
 ghost use Rattle.indexmap.specs.IndexMap.{move_index};
-ghost use Rattle.landing_rules.specs.Events.{named, estimated, newcomer, without_first, same_span, refusal, situation_after};
+ghost use Rattle.landing_rules.specs.Events.{named, revise, newcomer, without_first, same_span, refusal, situation_after};
 ghost use Rattle.cps_base.specs.Limits.{most_closures};
 ghost use Rattle.landing_rules.specs.Sound.{IsGoodEvent};
-ghost use Rattle.arrivals.specs.Seen.{event_of, flight_of};
+ghost use Rattle.arrivals.specs.Seen.{event_of, flight_of, revision_of};
 ghost use Rattle.landing_rules.specs.Rules.{last_second};
 ghost use Rattle.situations.specs.Changes.{after, before, CanGoBack, IsOf};
 
 use crate::{Active, Situation, View};
-use arrivals::{Event, Flight};
+use arrivals::{Event, Flight, Revision};
 use cps_base::Callsign;
-use landing_windows::{Closures, WindowSet};
+use landing_windows::Closures;
 use std::alloc::{AllocError, Global};
 
 /// An event's change of a situation, which stands there and can still be taken back: what stood before it.
 #[derive(Drop)]
 pub enum Change {
-    /// The flight of the callsign had this estimate and these windows.
-    Estimate(Callsign, u32, WindowSet),
+    /// This is to be set anew of the flight of the callsign.
+    Revise(Callsign, Revision),
     /// The flight that stands last is to go. In order of arrival its place was this one, from 0.
     Cancel(usize),
     /// The flight that stands last is the new one.
@@ -33,17 +33,17 @@ pub enum Change {
 }
 
 impl Situation {
-    // The flight of the callsign has this estimate and these windows.
-    fn change_estimate(&mut self, callsign: Callsign, eta: u32, windows: &WindowSet) -> Change
+    // Sets this anew of the flight of the callsign.
+    fn change_flight(&mut self, callsign: Callsign, revision: Revision) -> Change
         requires { is_some (find (named callsign) self.old.active) ≡ true }
         ensures change { IsOf self.old (record self.old {
           active = map
-              (estimated callsign eta windows.now) self.old.active;
+              (revise callsign (revision_of revision)) self.old.active;
         }) result self.new }
     {
-        match self.estimate(callsign, eta, windows) {
+        match self.revise(callsign, revision) {
             None => unreachable!(),
-            Some(old) => Change::Estimate(callsign, old.0, old.1),
+            Some(back) => Change::Revise(callsign, back),
         }
     }
 
@@ -150,9 +150,7 @@ impl Situation {
     {
         let closures = self.closures;
         match event {
-            Event::Estimate(callsign, eta, windows) => {
-                Ok(self.change_estimate(*callsign, *eta, windows))
-            }
+            Event::Revise(callsign, revision) => Ok(self.change_flight(*callsign, *revision)),
             Event::Cancel(callsign) => Ok(self.change_cancel(*callsign)),
             Event::Add(flight) => {
                 self.add(flight)?;
@@ -197,8 +195,8 @@ impl Situation {
         ensures { self.new ≡ before change self.old }
     {
         match change {
-            Change::Estimate(callsign, eta, windows) => {
-                self.estimate(callsign, eta, &windows);
+            Change::Revise(callsign, revision) => {
+                self.revise(callsign, revision);
             }
             Change::Cancel(place) => self.move_from_last(place),
             Change::Add => self.drop_last(),

@@ -220,7 +220,7 @@ impl Situation {
         ensures { IsAnswer result (refusal self.now (event_of event.now)) }
     {
         match event {
-            Event::Estimate(callsign, _, _) => self.named_refusal(*callsign),
+            Event::Revise(callsign, _) => self.named_refusal(*callsign),
             Event::Cancel(callsign) => self.named_refusal(*callsign),
             Event::Add(flight) => self.add_refusal(flight),
             Event::Close(from, to) => self.close_refusal(*from, *to),

@@ -2,7 +2,7 @@
 use Rattle.std.specs.Prelude.{⊤, ℕ, ◌+◌, ◌*◌, ◌≤◌, min, List, All, Option, Some, None, length}
 use Rattle.cps_base.specs.Limits.{most_events, most_flights}
 use Rattle.landing_rules.specs.Rules.{last_second}
-use Rattle.landing_rules.specs.Events.{Answered, Cancel, Estimate, Event, Run, State}
+use Rattle.landing_rules.specs.Events.{Answered, Cancel, Event, Revise, Run, State}
 use Rattle.landing_rules.specs.Sound.{IsGoodEvent, IsSoundState}
 use Rattle.landing_rules.specs.Text.{replay_text}
 
@@ -20,7 +20,7 @@ replay_bound flights events = (events + 1) * answer_bound (most_active flights e
 
 -- the callsign that an event names has at most 8 bytes
 abbrev pub HasShortName : Event → Type 0
-HasShortName (Estimate c eta windows) = length c ≤ 8
+HasShortName (Revise c r) = length c ≤ 8
 HasShortName (Cancel c) = length c ≤ 8
 HasShortName e = ⊤
 

@@ -20,8 +20,8 @@ use Rattle.std.specs.List.{list_any}
 use Rattle.std.proofs.lemmas.List.{length-append}
 use Rattle.landing_rules.specs.Flights.{Active, Flight, Landing, Situation, Span, landing, waiting}
 use Rattle.landing_rules.specs.Rules.{is_open, is_shut, last_second, lists}
-use Rattle.landing_rules.specs.Events.{Add, Cancel, Clock, ClockBack, Close, CoversFrozen, Duplicate, Estimate, Event}
-use Rattle.landing_rules.specs.Events.{Frozen, PredecessorOfFrozen, Refusal, Reopen, TooManyClosures, TooManyFlights}
+use Rattle.landing_rules.specs.Events.{Add, Cancel, Clock, ClockBack, Close, CoversFrozen, Duplicate, Event, Frozen}
+use Rattle.landing_rules.specs.Events.{PredecessorOfFrozen, Refusal, Reopen, Revise, TooManyClosures, TooManyFlights}
 use Rattle.landing_rules.specs.Events.{TooManyWaiting, UnknownClosure, UnknownFlight, clock_back, frozen_landings}
 use Rattle.landing_rules.specs.Events.{in_landing_order, named, refusal, same_span, unknown_or_frozen}
 use Rattle.landing_rules.specs.Sound.{IsGoodEvent, IsGoodFlight, IsSound}
@@ -189,7 +189,7 @@ module _ (s : Situation) (sound : IsSound s) where
       ]
 
       go : (e : Event) → IsGoodEvent e → HasShortName e → refusal s e ≡ Some r → IsShort r
-      go (Estimate c eta windows) good name is = unknown_short c r name is
+      go (Revise c revision) good name is = unknown_short c r name is
       go (Cancel c) good name is = unknown_short c r name is
       go (Add f) good name is = added f good is
       go (Close span) good name is = closed _ is
