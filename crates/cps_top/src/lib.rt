@@ -8,5 +8,5 @@ mod top;
 
 pub use commands::{Command, texts_are_bounded};
 pub use laws::printed_certificates_are_accepted;
-pub use real_runs::{RealRun, run_over};
+pub use real_runs::{Environment, RealRun, run_over};
 pub use top::run;

@@ -9,6 +9,17 @@ use std::alloc::Global;
 use std::io::Write;
 use std::thread::Threads;
 
+/// What a run meets outside of the program: files that an opener opens, and writers for the output and the standard error.
+#[derive(Drop)]
+pub struct Environment<O, W: Write, E: Write> {
+    /// Opens the files that are named.
+    pub opener: O,
+    /// The output.
+    pub out: W,
+    /// The standard error.
+    pub err: E,
+}
+
 /// A run that has ended.
 #[derive(Drop)]
 pub struct RealRun<O, W: Write, E: Write> {
@@ -31,9 +42,7 @@ pub fn run_over<R, O, W, E, G>(
     rt: &R,
     alloc: Global,
     words: &[String],
-    opener: O,
-    out: W,
-    err: E,
+    environment: Environment<O, W, E>,
     gate: &G,
 ) -> RealRun<O, W, E>
 where
@@ -42,22 +51,22 @@ where
     W: Write + Drop,
     E: Write + Drop,
     G: Gate + Sync,
-    requires out { IsSome (W.contents out) }
-    requires err { IsSome (E.contents err) }
+    requires out { IsSome (W.contents environment.out) }
+    requires err { IsSome (E.contents environment.err) }
     ensures { RunsTo (map string_bytes words.now)
         record {
-          folder = folder_over (O.state opener) 0 0;
-          out = sink_over true (W.contents out) 0 0;
+          folder = folder_over (O.state environment.opener) 0 0;
+          out = sink_over true (W.contents environment.out) 0 0;
         }
         record {
           folder = folder_state O.state result.folder;
           out = sink_state W.contents result.out;
         }
-        (sink_over true (E.contents err) 0 0) (sink_state E.contents result.err) result.status }
+        (sink_over true (E.contents environment.err) 0 0) (sink_state E.contents result.err) result.status }
 {
-    let mut folder = OpenedFiles::over(alloc, opener);
-    let mut out = RealSink::telling(out);
-    let mut err = RealSink::telling(err);
+    let mut folder = OpenedFiles::over(alloc, environment.opener);
+    let mut out = RealSink::telling(environment.out);
+    let mut err = RealSink::telling(environment.err);
     let status = run(rt, alloc, words, &mut folder, &mut out, &mut err, gate);
     RealRun {
         status,

@@ -3,6 +3,7 @@ ghost use Rattle.planning_commands.specs.Effort.{FollowsEffort};
 use crate::replay::{LogFiles, begin_files, ending_of};
 use cps_outside::{Gate, Sink};
 use endings::Ending;
+use replays::Opened;
 use std::alloc::Global;
 use std::thread::Threads;
 
@@ -18,18 +19,11 @@ pub fn run_effort<R: Threads + Sync, S: Sink, G: Gate + Sync>(
     ensures { FollowsEffort files.now.aerodrome.now files.now.flights.now files.now.events.now
         (S.state out.old) (S.state out.new) result }
 {
-    let (mut sequencer, events, opening) = match begin_files(rt, alloc, files, gate) {
+    let (sequencer, events, steps) = match begin_files(rt, alloc, files, gate) {
         Ok(begun) => begun,
         Err(ending) => return ending,
     };
-    let ended = replays::effort(
-        rt,
-        alloc,
-        &mut sequencer,
-        opening,
-        events.as_slice(),
-        out,
-        gate,
-    );
+    let mut opened = Opened { sequencer, steps };
+    let ended = replays::effort(rt, alloc, &mut opened, events.as_slice(), out, gate);
     ending_of(ended)
 }

@@ -6,7 +6,6 @@ ghost use Rattle.planning_commands.specs.Replay.{ending_of, FollowsReplay, IsBeg
 
 use aerodrome_file::read_aerodrome;
 use arrivals::Event;
-use cps_base::{Silent, Steps};
 use cps_outside::{Gate, Sink};
 use endings::Ending;
 use event_log::read_events;
@@ -81,15 +80,6 @@ pub fn run_replay<R: Threads + Sync, S: Sink, G: Gate + Sync>(
         Ok(begun) => begun,
         Err(ending) => return ending,
     };
-    let mut steps = Steps::new(Silent);
-    let replayed = replays::replay(
-        rt,
-        alloc,
-        &mut sequencer,
-        events.as_slice(),
-        out,
-        gate,
-        &mut steps,
-    );
+    let replayed = replays::replay(rt, alloc, &mut sequencer, events.as_slice(), out, gate);
     ending_of(replayed)
 }

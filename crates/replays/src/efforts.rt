@@ -135,33 +135,41 @@ fn is_planned(sequencer: &Sequencer<AnyKept>) -> bool
     sequencer.plan().is_some()
 }
 
+/// A sequencer that has begun, and the steps of its planning.
+#[derive(Drop)]
+pub struct Opened {
+    /// The sequencer.
+    pub sequencer: Sequencer<AnyKept>,
+    /// How many steps the planning of its problem took.
+    pub steps: u64,
+}
+
 /// Replays the events from the state of the sequencer, and prints how many steps its planning took at the opening, after
 /// each accepted event, and in all. Each line is one put. It answers whether a plan is shown at the end.
 ///
-/// `opening` is how many steps the planning of the sequencer's problem took with nothing held, and the planner holds that
-/// problem. It asks that the events' numbers are in their ranges, and that there are at most 2,000. Where it answers a plan,
-/// or none, `out` grew by the text of a run of the rules over all of the events, with the steps that are due at each planning.
-/// After a put that failed the lines before stand whole, and behind them a part of that one; where memory ran out, the lines
-/// of the first puts, or none.
+/// It asks that the planner holds the sequencer's problem, which was planned in so many steps with nothing held, that the
+/// events' numbers are in their ranges, and that there are at most 2,000. Where it answers a plan, or none, `out` grew by the
+/// text of a run of the rules over all of the events, with the steps that are due at each planning. After a put that failed
+/// the lines before stand whole, and behind them a part of that one; where memory ran out, the lines of the first puts, or
+/// none.
 pub fn effort<R: Threads + Sync, S: Sink, G: Gate + Sync>(
     rt: &R,
     alloc: Global,
-    sequencer: &mut Sequencer<AnyKept>,
-    opening: u64,
+    opened: &mut Opened,
     events: &[Event],
     out: &mut S,
     gate: &G,
 ) -> Result<bool, Stop>
     requires good { All IsGood events.now }
     requires few { length events.now ≤ most_events }
-    requires held { Holds sequencer.old.planner sequencer.old.problem }
-    requires opened { IsDue None sequencer.old.problem opening }
-    ensures { EffortEnds sequencer.old.state sequencer.new.state (map event_of events.now)
+    requires held { Holds opened.old.sequencer.planner opened.old.sequencer.problem }
+    requires planned { IsDue None opened.old.sequencer.problem opened.old.steps }
+    ensures { EffortEnds opened.old.sequencer.state opened.new.sequencer.state (map event_of events.now)
         (S.state out.old) (S.state out.new) result }
 {
-    due_is_small(sequencer.problem());
-    open(alloc, opening, out)?;
-    let steps = plan_events(rt, alloc, sequencer, events, out, gate)?;
-    close(alloc, opening + steps, out)?;
-    Ok(is_planned(sequencer))
+    due_is_small(opened.sequencer.problem());
+    open(alloc, opened.steps, out)?;
+    let steps = plan_events(rt, alloc, &mut opened.sequencer, events, out, gate)?;
+    close(alloc, opened.steps + steps, out)?;
+    Ok(is_planned(&opened.sequencer))
 }

@@ -9,7 +9,7 @@ mod lines;
 mod over_events;
 mod stops;
 
-pub use efforts::effort;
+pub use efforts::{Opened, effort};
 pub use laws::steps_are_one;
 pub use over_events::replay;
 pub use stops::Stop;

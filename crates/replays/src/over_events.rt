@@ -7,7 +7,7 @@ ghost use Rattle.replays.specs.Runs.{PutsAnswer, ReplayEnds};
 use crate::lines::{begun, refused, write_accepted};
 use crate::stops::Stop;
 use arrivals::Event;
-use cps_base::{Ledger, Steps};
+use cps_base::{Silent, Steps};
 use cps_outside::{Gate, Sink};
 use cps_problem::Planner;
 use plan_text::KeptText;
@@ -64,14 +64,13 @@ fn open<P: Planner, S: Sink>(
 /// none, `out` grew by the text of a run of the rules over all of the events. After a put that failed the text of a run over
 /// the events before stands whole, and behind it a part of that put's; where memory ran out, nothing or the whole of such a
 /// text.
-pub fn replay<R: Threads + Sync, S: Sink, G: Gate + Sync, L: Ledger>(
+pub fn replay<R: Threads + Sync, S: Sink, G: Gate + Sync>(
     rt: &R,
     alloc: Global,
     sequencer: &mut Sequencer<AnyKept>,
     events: &[Event],
     out: &mut S,
     gate: &G,
-    steps: &mut Steps<L>,
 ) -> Result<bool, Stop>
     requires good { All IsGood events.now }
     requires few { length events.now < 2 ^ 31 }
@@ -80,8 +79,9 @@ pub fn replay<R: Threads + Sync, S: Sink, G: Gate + Sync, L: Ledger>(
 {
     open(alloc, &*sequencer, out)?;
     let mut answer = KeptText::new(alloc);
+    let mut steps = Steps::new(Silent);
     for i in 0..events.len() {
-        let outcome = sequencer.apply(rt, alloc, &events[i], gate, steps);
+        let outcome = sequencer.apply(rt, alloc, &events[i], gate, &mut steps);
         put_answer(alloc, &*sequencer, i as u32 + 1, outcome, &mut answer, out)?;
     }
     Ok(sequencer.plan().is_some())

@@ -2,7 +2,7 @@
 ghost use Rattle.std.specs.Prelude.{Some, None, true, if◌then◌else◌, bytes_eq, codes, map, string_bytes};
 
 use cps_outside::{FreeGate, Opener};
-use cps_top::run_over;
+use cps_top::{Environment, run_over};
 use std::alloc::{AllocError, Global};
 use std::io;
 use std::io::{Cursor, ErrorKind};
@@ -84,8 +84,12 @@ fn a_run_over_opened_files_answers_for_their_bytes(rt: HostRuntime) -> Result<()
             flights: Vec::from_slice(alloc, FLIGHTS.as_bytes())?,
             asked: Vec::new(alloc),
         };
-        let (out, err) = (Vec::new(alloc), Vec::new(alloc));
-        let run = run_over(&rt, alloc, words.as_slice(), desk, out, err, &FreeGate);
+        let environment = Environment {
+            opener: desk,
+            out: Vec::new(alloc),
+            err: Vec::new(alloc),
+        };
+        let run = run_over(&rt, alloc, words.as_slice(), environment, &FreeGate);
         assert_eq!(rt; run.status, status);
         assert_eq!(rt; run.out.into_writer().as_slice(), text.as_bytes());
         assert_eq!(rt; run.err.into_writer().as_slice(), line.as_bytes());

@@ -15,35 +15,36 @@ opening_few opening is due small = small None opening (subst (λ (r : Problem). 
 pub returns-in_err-open : goal.returns-in_err-open
 returns-in_err-open g c =
     let p = err_from_is_err_and c.from_residual.result c.from_residual.ensures.1 in
-    rw (p.1, p.2) (stops_at_once c.args.sequencer.now _ c.args.opening c.problem.ensures.problem c.requires.opened
-    (opening_few c.args.opening c.problem.ensures.value c.requires.opened c.due_is_small.ensures)
-    c.in_err-open.field-0.0 c.args.sequencer.now _ _ c.in_err-open.ensures)
+    let few = opening_few _ c.problem.ensures.value c.requires.planned c.due_is_small.ensures in
+    rw (p.1, p.2) (stops_at_once c.args.opened.now.sequencer _ _ c.problem.ensures.problem c.requires.planned few
+    c.in_err-open.field-0.0 c.args.opened.now.sequencer _ _ c.in_err-open.ensures)
 
 pub returns-in_err-steps : goal.returns-in_err-steps
 returns-in_err-steps g c =
     let p = err_from_is_err_and c.from_residual-in_err-steps.result c.from_residual-in_err-steps.ensures.1 in
-    rw (p.1, p.2) (stops_after c.args.sequencer.now _ c.args.opening c.problem.ensures.problem c.requires.opened
-    (opening_few c.args.opening c.problem.ensures.value c.requires.opened c.due_is_small.ensures)
+    let few = opening_few _ c.problem.ensures.value c.requires.planned c.due_is_small.ensures in
+    rw (p.1, p.2) (stops_after c.args.opened.now.sequencer _ _ c.problem.ensures.problem c.requires.planned few
     c.in_err-steps.field-0.0 c.plan_events.new.sequencer _ _ _ c.in_ok-open.ensures c.in_err-steps.ensures)
 
-pub overflow_add-opening : goal.overflow_add-opening
-overflow_add-opening g c =
-    let opening = opening_few c.args.opening c.problem.ensures.value c.requires.opened c.due_is_small.ensures in
+pub overflow_add-opened : goal.overflow_add-opened
+overflow_add-opened g c =
+    let few = opening_few _ c.problem.ensures.value c.requires.planned c.due_is_small.ensures in
     let many = length-map c.args.events.now event_of in
-    omega (arith, opening, c.in_ok-steps.ensures.few, many, c.requires.few)
+    omega (arith, few, c.in_ok-steps.ensures.few, many, c.requires.few)
 
 pub returns-in_err-close : goal.returns-in_err-close
 returns-in_err-close g c =
     let p = err_from_is_err_and c.from_residual-in_err-close.result c.from_residual-in_err-close.ensures.1 in
-    rw (p.1, p.2) (stops_last c.args.sequencer.now _ c.args.opening c.problem.ensures.problem c.requires.opened
-    (opening_few c.args.opening c.problem.ensures.value c.requires.opened c.due_is_small.ensures)
+    let few = opening_few _ c.problem.ensures.value c.requires.planned c.due_is_small.ensures in
+    rw (p.1, p.2) (stops_last c.args.opened.now.sequencer _ _ c.problem.ensures.problem c.requires.planned few
     c.in_err-close.field-0.0 c.plan_events.new.sequencer c.in_ok-steps.steps _ _ _ _
     c.in_ok-open.ensures c.in_ok-steps.ensures c.in_err-close.ensures)
 
 pub returns : goal.returns
-returns g c = (
-  c.is_planned.ensures,
-  ends_whole c.args.sequencer.now _ c.args.opening c.problem.ensures.problem c.requires.opened (opening_few
-      c.args.opening c.problem.ensures.value c.requires.opened c.due_is_small.ensures) c.plan_events.new.sequencer
-      c.in_ok-steps.steps _ _ _ _ c.in_ok-open.ensures c.in_ok-steps.ensures c.in_ok-close.ensures,
-)
+returns g c =
+    let few = opening_few _ c.problem.ensures.value c.requires.planned c.due_is_small.ensures in (
+      c.is_planned.ensures,
+      ends_whole c.args.opened.now.sequencer _ _ c.problem.ensures.problem c.requires.planned few
+          c.plan_events.new.sequencer c.in_ok-steps.steps _ _ _ _ c.in_ok-open.ensures c.in_ok-steps.ensures
+          c.in_ok-close.ensures,
+    )
