@@ -151,7 +151,7 @@ pub struct Opened {
 /// events' numbers are in their ranges, and that there are at most 2,000. Where it answers a plan, or none, `out` grew by the
 /// text of a run of the rules over all of the events, with the steps that are due at each planning. After a put that failed
 /// the lines before stand whole, and behind them a part of that one; where memory ran out, the lines of the first puts, or
-/// none.
+/// none. The steps of the opening stay as they are.
 pub fn effort<R: Threads + Sync, S: Sink, G: Gate + Sync>(
     rt: &R,
     alloc: Global,
@@ -164,8 +164,9 @@ pub fn effort<R: Threads + Sync, S: Sink, G: Gate + Sync>(
     requires few { length events.now ≤ most_events }
     requires held { Holds opened.old.sequencer.planner opened.old.sequencer.problem }
     requires planned { IsDue None opened.old.sequencer.problem opened.old.steps }
-    ensures { EffortEnds opened.old.sequencer.state opened.new.sequencer.state (map event_of events.now)
-        (S.state out.old) (S.state out.new) result }
+    ensures outcome { EffortEnds opened.old.sequencer.state opened.new.sequencer.state
+        (map event_of events.now) (S.state out.old) (S.state out.new) result }
+    ensures kept { opened.new.steps ≡ opened.old.steps }
 {
     due_is_small(opened.sequencer.problem());
     open(alloc, opened.steps, out)?;
