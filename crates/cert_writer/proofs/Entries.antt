@@ -19,7 +19,7 @@ use Rattle.landing_joint.specs.shared.RankedLists.{sound_ranked}
 use Rattle.cps_problem.specs.WellFormed.{IsWellFormed}
 use Rattle.cps_nodes.specs.Windows.{IsPlaced}
 use Rattle.cps_network.specs.Lists.{node_at}
-use Rattle.cps_network.specs.Nodes.{Node, node_of, latest, IsWindowNetwork, WindowsTellNodes}
+use Rattle.cps_network.specs.Nodes.{WindowNode, node_of, latest, IsWindowNetwork, WindowsTellNodes}
 use Rattle.cps_network.specs.Pairs.{HoldsCosts}
 use Rattle.cps_network.specs.WindowRanks.{TellTheirRanks}
 use Rattle.cert_check.specs.PlacedBits.{PatternOfBitsLaw}
@@ -39,11 +39,11 @@ end_with_flights p d q a =
 -- the set of a prefix's window gives the node of the prefix
 pub placed_tell : (p : Problem) → PatternOfBitsLaw → IsWindowNetwork p → TellTheirRanks p → PlacedTellNodes p
 placed_tell p bits net tells stage placed xs told rs legal at =
-    let here = λ (r : ℕ) (one : 1 ≤ r). subst (λ (n : Node). IsPlaced n.1 (pos n.0) (pos r) ↔ In r rs) at
+    let here = λ (r : ℕ) (one : 1 ≤ r). subst (λ (n : WindowNode). IsPlaced n.1 (pos n.0) (pos r) ↔ In r rs) at
     (tells rs r legal one) in
     let whole = bits (ranked p).rules rs placed
     (λ r one. (λ b. (here r one).0 ((told r).0 b).1, λ i. (told r).1 (one, (here r one).1 i))) in
-    let long : length rs ≡ stage = ap (λ (n : Node). n.0) at in
+    let long : length rs ≡ stage = ap (λ (n : WindowNode). n.0) at in
     let last : last_rank rs ≡ latest (stage, xs) = sym (net.newest_is rs legal) ∙ ap latest at in cc
 
 module _ (p : Problem) (sound : SoundProblem (ranked p)) (tell : WindowsTellNodes p) (stage : ℕ × List (List ℤ))

@@ -17,7 +17,7 @@ use Rattle.landing_joint.specs.RankedProblem.{ranked, cost_at}
 use Rattle.landing_rules.specs.declared.objective.Objective.TheVariants.{Makespan}
 use Rattle.cps_network.specs.Landable.{IsLandable}
 use Rattle.cps_network.specs.Lists.{node_at}
-use Rattle.cps_network.specs.Nodes.{Node, latest}
+use Rattle.cps_network.specs.Nodes.{WindowNode, latest}
 use Rattle.cps_network.specs.Pairs.{HoldsCosts, list_at, pair_at}
 use Rattle.cps_network.specs.WindowRanks.{TellsPlaced}
 use Rattle.cert_check.specs.PlacedBits.{digits_of}
@@ -44,7 +44,7 @@ pub window_shape : (p : Problem) (stage : ℕ) (xs : List ℤ) (d : PatternNode)
     → IsWindowOf p stage xs d → IsShaped p.k (length p.flights) d × (1 ≤ d.2)
 window_shape p stage xs d one l of =
     let a = l.1 in grind
-    (arith, prefix_shape p (ranks a.landings) (omega (arith, (ap (λ (n : Node). n.0) a.at), one)) a.legal)
+    (arith, prefix_shape p (ranks a.landings) (omega (arith, (ap (λ (n : WindowNode). n.0) a.at), one)) a.legal)
 
 pub window_node : (p : Problem) (stage : ℕ) (xs : List ℤ) (d e : PatternNode) → IsLandable p stage xs
     → IsWindowOf p stage xs d → IsWindowOf p stage xs e → d ≡ e

@@ -7,7 +7,7 @@ use Rattle.cps_theory.specs.LegalPrefix.{Legal}
 use Rattle.cps_theory.specs.laws.LegalPrefix.{in_from_one, legal_each_fits}
 use Rattle.landing_joint.specs.RankedProblem.{ranked}
 use Rattle.landing_rules.specs.Problem.{Problem}
-use Rattle.cps_network.specs.Nodes.{Node, node_of, IsWindowNetwork, WindowsTellNodes}
+use Rattle.cps_network.specs.Nodes.{WindowNode, node_of, IsWindowNetwork, WindowsTellNodes}
 use Rattle.cps_network.specs.WindowRanks.{TellTheirRanks}
 
 module _ (p : Problem) (net : IsWindowNetwork p) (tells : TellTheirRanks p) where
@@ -15,7 +15,7 @@ module _ (p : Problem) (net : IsWindowNetwork p) (tells : TellTheirRanks p) wher
       → node_of p.k rs ≡ node_of p.k os → (x : ℕ) → In x rs → In x os
   placed_alike rs os l m e x i =
       let one = (in_from_one (ranked p).rules x rs (legal_each_fits (ranked p).rules rs l) i).0 in
-      (tells os x m one).0 (subst (λ (n : Node). IsPlaced n.1 (pos n.0) (pos x)) e ((tells rs x l one).1 i))
+      (tells os x m one).0 (subst (λ (n : WindowNode). IsPlaced n.1 (pos n.0) (pos x)) e ((tells rs x l one).1 i))
 
   pub windows_tell_nodes : WindowsTellNodes p
   windows_tell_nodes rs os l m e = grind (arith, placed_alike)

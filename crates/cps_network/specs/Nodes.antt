@@ -10,29 +10,29 @@ use Rattle.landing_joint.specs.RankedProblem.{ranked}
 use Rattle.landing_rules.specs.Problem.{Problem}
 use Rattle.cps_network.specs.Permits.{IsPermitted}
 
--- a stage and a window
-abbrev pub Node : Type 0
-Node = ℕ × List ℤ
+-- a stage and a window: a node, where `Node` is the ranks that it places and the last
+abbrev pub WindowNode : Type 0
+WindowNode = ℕ × List ℤ
 
 -- the node of a prefix, whose latest rank comes first
-abbrev pub node_of : ℕ → List ℕ → Node
+abbrev pub node_of : ℕ → List ℕ → WindowNode
 node_of k rs = (length rs, window_of (2 * k + 1) (reverse rs))
 
 -- a rank may come next
-abbrev pub permits : Problem → Node → ℕ → Type 0
+abbrev pub permits : Problem → WindowNode → ℕ → Type 0
 permits p w rank = IsPermitted p w.0 w.1 rank
 
 -- the node when a rank has come next
-abbrev pub land : Node → ℕ → Node
+abbrev pub land : WindowNode → ℕ → WindowNode
 land w rank = (suc w.0, shifted w.1 (offset_after w.0 rank))
 
 -- the latest rank, and 0 before the first
-abbrev pub latest : Node → ℕ
+abbrev pub latest : WindowNode → ℕ
 latest w = nat_abs (pos w.0 +ℤ offset_at w.1 (length w.1 - 1))
 
 -- the windows of a problem are the nodes of the network of its legal prefixes
 abbrev pub IsWindowNetwork : Problem → Type 0
-IsWindowNetwork p = Network Node (Legal (ranked p).rules) (node_of p.k) (permits p) land latest
+IsWindowNetwork p = Network WindowNode (Legal (ranked p).rules) (node_of p.k) (permits p) land latest
 
 -- to be legal step by step is to be legal as a whole
 abbrev pub StepsAreWhole : Problem → Type 0

@@ -97,7 +97,7 @@ fn made_after<const W: usize>(
         let same = before.copy_as(number)?;
         return Ok(same);
     }
-    let made = Stage::made(alloc, number, windows)?;
+    let made = Stage::of(alloc, number, windows)?;
     Ok(made)
 }
 

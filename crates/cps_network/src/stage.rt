@@ -50,12 +50,12 @@ impl<const W: usize> Stage<W> {
         window_laws::<W>();
         let mut windows = Vec::new(alloc);
         windows.push(Window::source())?;
-        let start = Stage::made(alloc, 0, windows)?;
+        let start = Stage::of(alloc, 0, windows)?;
         Ok(start)
     }
 
     // The stage of these windows.
-    pub(crate) fn made(
+    pub(crate) fn of(
         alloc: Global,
         number: u8,
         windows: Vec<Window<W>>,

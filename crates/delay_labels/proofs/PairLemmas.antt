@@ -25,7 +25,7 @@ use Rattle.landing_rules.specs.Problem.{Problem}
 use Rattle.landing_rules.specs.Rules.{last_second}
 use Rattle.cps_problem.specs.WellFormed.{IsWellFormed}
 use Rattle.cps_network.specs.Lists.{node_at}
-use Rattle.cps_network.specs.Nodes.{Node, node_of, permits, land, latest}
+use Rattle.cps_network.specs.Nodes.{WindowNode, node_of, permits, land, latest}
 use Rattle.cps_network.specs.Permits.{IsSuccessor}
 use Rattle.cps_network.specs.shared.LeadingWindows.{Sources, successor_at, place_at, rank_of, leader_at, landable_at}
 use Rattle.cps_network.specs.shared.LeadingWindows.{leader_range, rank_range}
@@ -124,19 +124,19 @@ module _ (p : Problem) (wf : IsWellFormed p) (w stage : ℕ) (before : List (Lis
       subst (IsFirstToGive q) (same_Some (place, i) at e)
       (gives_at q place i lo hi within lands, λ n m below other. let g = given_at q n m other in grind arith)
 
-  abbrev Lists : Node → Pair → Type 0
+  abbrev Lists : WindowNode → Pair → Type 0
   Lists n q = (j : ℕ) × (j < length before) × (n ≡ (stage, node_at before j)) × InPairs q (list_at lists j)
 
-  abbrev Here : Node → Pair → Type 0
+  abbrev Here : WindowNode → Pair → Type 0
   Here n q = Attained (λ s u. (ranked p).is_open s u ≡ true) (next_from (ranked p)) (cost_at p)
       (Legal (ranked p).rules) (node_of p.k) n q
 
-  source_kept : (n : Node) → n.0 ≡ stage → Kept (Here n) (Lists n)
+  source_kept : (n : WindowNode) → n.0 ≡ stage → Kept (Here n) (Lists n)
   source_kept n at = record {
     attained = grind (arith, listed_attained);
     covers = λ q a.
         let same : n ≡ (stage, n.1) = ap (λ (s : ℕ). (s, n.1)) at in
-        let a' : Attains p stage n.1 q = subst (λ (m : Node). Here m q) same a in
+        let a' : Attains p stage n.1 q = subst (λ (m : WindowNode). Here m q) same a in
         let has = (range.holds n.1).1 (q, a') in
         let it : node_at before has.0 ≡ n.1 = get_or_default before has.0 [] n.1 has.1 ∙ has.2 in
         let c = (are.pairs has.0 has.1).covers q (subst (λ (y : List ℤ). Attains p stage y q) (sym it) a') in
@@ -147,10 +147,11 @@ module _ (p : Problem) (wf : IsWellFormed p) (w stage : ℕ) (before : List (Lis
   node_kept : (pairs : List Pair) → ((q : Pair) → InPairs q pairs → IsGivenIn p l r lists from to q)
       → ((q : Pair) → IsGivenIn p l r lists from to q → (o : Pair) × InPairs o pairs × NoWorse o q)
       → Kept (Attains p (suc stage) v) (λ q. InPairs q pairs)
-  node_kept pairs made enough = kept_next Node (λ s u. (ranked p).is_open s u ≡ true) (first_at p) (next_from
+  node_kept pairs made enough = kept_next WindowNode (λ s u. (ranked p).is_open s u ≡ true) (first_at p) (next_from
       (ranked p)) (cost_at p) (Legal (ranked p).rules) (node_of p.k) (permits p) land latest (is_first_open p)
       (next_later (ranked p)) (costs_rise p) range.laws.network Lists (suc stage, v) (λ q. InPairs q pairs)
-      (λ e. never (ap (λ (n : Node). n.0) e)) (λ n s may at. source_kept n (less (ap (λ (m : Node). m.0) at))) (λ q i.
+      (λ e. never (ap (λ (n : WindowNode). n.0) e))
+      (λ n s may at. source_kept n (less (ap (λ (m : WindowNode). m.0) at))) (λ q i.
       let g = made q i in
       let lt : g.0 < length before = let h = g.2 in omega (arith, h, range.within) in
       let x = gives g.0 g.1 g.2 g.3 q g.4 g.5 in (
@@ -170,12 +171,12 @@ module _ (p : Problem) (wf : IsWellFormed p) (w stage : ℕ) (before : List (Lis
       less : {a b : ℕ} → suc a ≡ suc b → a ≡ b
       less {a} {b} e = omega arith
 
-      given_of : (n : Node) (s : ℕ) (o q : Pair) → permits p n s → land n s ≡ (suc stage, v)
+      given_of : (n : WindowNode) (s : ℕ) (o q : Pair) → permits p n s → land n s ≡ (suc stage, v)
           → Lists n o → successor p (latest n) o s ≡ Some q → IsGivenIn p l r lists from to q
       given_of n s o q may at (j, lt, is, i) e =
-          let may' : permits p (stage, node_at before j) s = subst (λ (m : Node). permits p m s) is may in
+          let may' : permits p (stage, node_at before j) s = subst (λ (m : WindowNode). permits p m s) is may in
           let next : v ≡ shifted (node_at before j) (offset_after stage s) =
-          sym (ap (λ (m : Node). m.1) at) ∙ ap (λ (m : Node). (land m s).1) is in
+          sym (ap (λ (m : WindowNode). m.1) at) ∙ ap (λ (m : WindowNode). (land m s).1) is in
           let x : IsSuccessor p stage (node_at before j) v = (s, may', next) in
           let found = place_at p w stage before v from to range j lt x in
           let same : s ≡ r = rank_of p w stage before v from to range r rank_is (node_at before j)

@@ -152,10 +152,10 @@ module _ (p : Problem) (net : network.IsWindowNetwork p) (tell : TellTheirRanks 
   window_prefix rs window node legal at w = record {
     placed = λ x. (
       λ b. (let a = (w.placed x).0 b in
-          (tell rs x legal a.0).0 (subst (λ (n : network.Node). IsPlaced n.1 (pos n.0) (pos x)) (sym at) a.1)),
+          (tell rs x legal a.0).0 (subst (λ (n : network.WindowNode). IsPlaced n.1 (pos n.0) (pos x)) (sym at) a.1)),
       λ i. (let one = (in_from_one (ranked p).rules x rs (legal_each_fits (ranked p).rules rs legal) i).0 in
           (w.placed x).1
-          (one, subst (λ (n : network.Node). IsPlaced n.1 (pos n.0) (pos x)) at ((tell rs x legal one).1 i))),
+          (one, subst (λ (n : network.WindowNode). IsPlaced n.1 (pos n.0) (pos x)) at ((tell rs x legal one).1 i))),
     );
     last = sym (net.newest_is rs legal) ∙ ap network.latest at ∙ sym w.last;
   }

@@ -89,7 +89,7 @@ fn stages_ahead(
     let _held = kept.stages();
     let mut windows = WindowNodes::new(alloc)?;
     let mut stages = Vec::with_capacity(alloc, usize::from(last) + 1)?;
-    stages.push(StageAhead::empty(alloc)?)?;
+    stages.push(StageAhead::new(alloc)?)?;
     for done in 0..last {
         let number = last - done;
         let put = kept.nodes(alloc, number, &windows)?;

@@ -34,7 +34,7 @@ impl Model for StageAhead {
 
 impl StageAhead {
     // The stage without a node.
-    pub(crate) fn empty(alloc: Global) -> Result<StageAhead, AllocError>
+    pub(crate) fn new(alloc: Global) -> Result<StageAhead, AllocError>
         ensures { IfOk result (λ s. s ≡ no_stage) }
     {
         let windows = WindowNodes::new(alloc)?;

@@ -38,14 +38,11 @@ cancelled s plan c h =
 
 -- ---- revise
 
-revised_callsign : (r : Revision) (f : Flight) → (revised r f).callsign ≡ f.callsign
-revised_callsign r f = grind arith
-
 good_again : (r : Revision) (f : Flight) → IsGoodRevision r → IsGoodFlight f → IsGoodFlight (revised r f)
 good_again r f g h = grind arith
 
 pub revise_callsign : (c : Callsign) (r : Revision) (a : Active) → (revise c r a).flight.callsign ≡ a.flight.callsign
-revise_callsign c r a = elim (cases_Bool (named c a)) [ inl e ↦ rw e (revised_callsign r a.flight) | inr e ↦ rw e ]
+revise_callsign c r a = grind arith
 
 pub revise_frozen : (c : Callsign) (r : Revision) (a : Active) → (revise c r a).frozen ≡ a.frozen
 revise_frozen c r a = elim (cases_Bool (named c a)) [ inl e ↦ rw e | inr e ↦ rw e ]

@@ -36,7 +36,7 @@ pub(crate) struct Lead {
 
 impl Group {
     // No group yet.
-    pub(crate) fn blank() -> Group {
+    pub(crate) fn new() -> Group {
         Group {
             from: 0,
             least: 0,

@@ -121,7 +121,7 @@ pub(crate) fn fill_part<const W: usize>(labelling: &Labelling<W>, start: usize, 
     if part.is_empty() {
         return;
     }
-    let mut first = Group::blank();
+    let mut first = Group::new();
     find_group(&mut first, labelling, earlier, start);
     let number = labelling.stage.number();
     let mut groups = [first; 8];

@@ -20,7 +20,7 @@ use Rattle.landing_rules.specs.Problem.{Problem, AreBetweenRanks}
 use Rattle.cps_network.specs.Due.{HasCandidates, HasCandidatesFrom, HasCandidatesIf, IsDueFrom}
 use Rattle.cps_network.specs.Landable.{Attains, IsLandable, HoldsLandable, HoldsCandidates}
 use Rattle.cps_network.specs.Lists.{IsAscending, node_at, AreWindows}
-use Rattle.cps_network.specs.Nodes.{Node, node_of}
+use Rattle.cps_network.specs.Nodes.{WindowNode, node_of}
 use Rattle.cps_network.specs.Pairs.{ArePairsOf, HoldsCosts, list_at}
 use Rattle.cps_network.specs.Permits.{IsNextOf}
 use Rattle.cps_network.specs.shared.DueSteps.{more_from, none_from, due_with_held}
@@ -52,7 +52,8 @@ start_pair p v q a = rw (no_landing a.landings (ap (λ n. n.0) a.at)) at a.is
 
 pub start_costs : (p : Problem) → HoldsCosts p (0, replicate (2 * p.k + 1) (pos 0) ∷ []) (((0, 0) ∷ []) ∷ [])
 start_costs p = record {
-  landable = λ v. (in_start v, λ l. (0, omega arith, sym (source_is p) ∙ ap (λ (n : Node). n.1) (start_only p v l)));
+  landable = λ v. (in_start v, λ l.
+      (0, omega arith, sym (source_is p) ∙ ap (λ (n : WindowNode). n.1) (start_only p v l)));
   costs = record { one_each = refl; pairs = pairs };
 }
   where

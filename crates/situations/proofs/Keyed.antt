@@ -128,7 +128,7 @@ module _ (c : Callsign) (g : Active → Active) where
       values_of fs ≡ map (at_named c g) (values_of es)
   changed_one es fs a x h distinct n new e = search (rules, one_set, keyed_apart)
 
--- what is set back of the flight of the callsign, where the change leaves its callsign
+-- set anew of the flight of the callsign, which keeps it, and then set back, the flights are as they were
 set_back : (c : Callsign) (g h : Active → Active) → ((a : Active) → name_of a ≡ name_of (g a)) → (xs : List Active)
     (a : Active) → AreApart xs → find (named c) xs ≡ Some a → h (g a) ≡ a
     → map (at_named c h) (map (at_named c g) xs) ≡ xs

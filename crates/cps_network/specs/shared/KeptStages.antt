@@ -13,12 +13,12 @@ use Rattle.cps_problem.specs.shared.OneDifference.{agree_back}
 use Rattle.cps_problem.specs.shared.EarlyLandings.{agree_below, same_landings}
 use Rattle.cps_network.specs.KeptStages.{LandAlike, EarlyStagesAreKept, UncountedStagesAreKept}
 use Rattle.cps_network.specs.Landable.{Attains, IsLandable}
-use Rattle.cps_network.specs.Nodes.{Node}
+use Rattle.cps_network.specs.Nodes.{WindowNode}
 
 land_alike : (p q : Problem) (d : ℕ) → IsWithinBoth p q d → AgreeUpTo p q d → AreBetweenRanks (length q.flights) q.pairs
     → (stage : ℕ) → stage + p.k < d → LandAlike p q stage
 land_alike p q d within agree between stage early xs landings (legal, landed, at) =
-    let long : length (ranks landings) ≡ stage = ap (λ (n : Node). n.0) at in
+    let long : length (ranks landings) ≡ stage = ap (λ (n : WindowNode). n.0) at in
     let short : length (ranks landings) + p.k < d = omega (arith, early, long) in
     let low = low_ranks (ranked p).rules d (ranks landings)
     (legal_each_fits (ranked p).rules (ranks landings) legal) short in

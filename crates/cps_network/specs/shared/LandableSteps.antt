@@ -9,20 +9,20 @@ use Rattle.cps_theory.specs.ProblemNetwork.{LandedIn}
 use Rattle.landing_joint.specs.RankedProblem.{ranked, cost_at}
 use Rattle.landing_rules.specs.Problem.{Problem}
 use Rattle.cps_network.specs.Landable.{IsLandable, HoldsLandable, HasEachLandable}
-use Rattle.cps_network.specs.Nodes.{Node, node_of, IsWindowNetwork}
+use Rattle.cps_network.specs.Nodes.{WindowNode, node_of, IsWindowNetwork}
 use Rattle.cps_network.specs.Permits.{IsSuccessor, IsNextOf}
 
 module _ (p : Problem) (net : IsWindowNetwork p) where
   landing_back : (stage : ℕ) (v : List ℤ) (xs : List Landing) → Legal (ranked p).rules (ranks xs)
       → LandedIn (ranked p) xs → node_of p.k (ranks xs) ≡ (suc stage, v)
       → (x : List ℤ) × IsLandable p stage x × IsSuccessor p stage x v
-  landing_back stage v [] legal landed at = absurd (never (ap (λ (n : Node). n.0) at))
+  landing_back stage v [] legal landed at = absurd (never (ap (λ (n : WindowNode). n.0) at))
     where
       never : 0 ≡ suc stage → ⊥
       never e = omega arith
   landing_back stage v (y ∷ xs) legal landed at =
       let s = net.shrinks y.0 (ranks xs) legal in
-      let long : length (ranks xs) ≡ stage = less (ap (λ (n : Node). n.0) at) in
+      let long : length (ranks xs) ≡ stage = less (ap (λ (n : WindowNode). n.0) at) in
       let here : node_of p.k (ranks xs) ≡ (stage, window_of (2 * p.k + 1) (reverse (ranks xs))) = cc in (
         window_of (2 * p.k + 1) (reverse (ranks xs)),
         (pair_of (cost_at p) xs, grind arith),

@@ -12,7 +12,7 @@ use Rattle.cps_theory.specs.LegalPrefix.{Legal}
 use Rattle.landing_joint.specs.RankedProblem.{ranked}
 use Rattle.landing_rules.specs.Problem.{Problem}
 use Rattle.cps_network.specs.Landable.{IsLandable}
-use Rattle.cps_network.specs.Nodes.{Node, node_of, permits, latest}
+use Rattle.cps_network.specs.Nodes.{WindowNode, node_of, permits, latest}
 use Rattle.cps_network.specs.Permits.{IsPermitted}
 use Rattle.cps_network.specs.WindowLaws.{WindowLaws}
 
@@ -53,7 +53,7 @@ module _ (p : Problem) (w : ℕ) (odd : w ≡ 2 * p.k + 1) (laws : WindowLaws p 
   landable_last stage x l =
       let is : latest (stage, x) ≡ last_rank (ranks l.1.landings) = grind arith in
       let last : pos stage +ℤ offset_at x (w - 1) ≡ pos (last_rank (ranks l.1.landings)) =
-      subst (λ (n : Node). pos n.0 +ℤ offset_at n.1 (w - 1) ≡ pos (last_rank (ranks l.1.landings))) l.1.at
+      subst (λ (n : WindowNode). pos n.0 +ℤ offset_at n.1 (w - 1) ≡ pos (last_rank (ranks l.1.landings))) l.1.at
       (prefix_last (ranks l.1.landings)) in grind arith
 
   -- and the rank that lands next is the last of the window after it
@@ -63,4 +63,4 @@ module _ (p : Problem) (w : ℕ) (odd : w ≡ 2 * p.k + 1) (laws : WindowLaws p 
       let rs = ranks l.1.landings in
       let here : permits p (node_of p.k (ranks l.1.landings)) r = grind arith in
       let at : node_of p.k (r ∷ ranks l.1.landings) ≡ (suc stage, shifted x (offset_after stage r)) = grind arith in
-      subst (λ (n : Node). pos n.0 +ℤ offset_at n.1 (w - 1) ≡ pos r) at (prefix_last (r ∷ ranks l.1.landings))
+      subst (λ (n : WindowNode). pos n.0 +ℤ offset_at n.1 (w - 1) ≡ pos r) at (prefix_last (r ∷ ranks l.1.landings))

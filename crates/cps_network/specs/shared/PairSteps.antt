@@ -18,16 +18,16 @@ use Rattle.landing_joint.specs.shared.FirstOpen.{is_first_open}
 use Rattle.landing_rules.specs.Problem.{Problem}
 use Rattle.cps_network.specs.Landable.{Attains, IsLandable}
 use Rattle.cps_network.specs.Lists.{node_at}
-use Rattle.cps_network.specs.Nodes.{Node, node_of, permits, land, latest, IsWindowNetwork}
+use Rattle.cps_network.specs.Nodes.{WindowNode, node_of, permits, land, latest, IsWindowNetwork}
 use Rattle.cps_network.specs.Pairs.{HoldsCosts, GivesPair, list_at, pair_at, successor}
 
 -- ---- the pair behind a pair
 
 module _ (p : Problem) (net : IsWindowNetwork p) where
-  pub next_attained : (w : Node) (a : Pair) (r : ℕ) (b : Pair) → Attains p w.0 w.1 a → permits p w r
+  pub next_attained : (w : WindowNode) (a : Pair) (r : ℕ) (b : Pair) → Attains p w.0 w.1 a → permits p w r
       → successor p (latest w) a r ≡ Some b → Attains p (suc w.0) (shifted w.1 (offset_after w.0 r)) b
   next_attained w a r b at may e =
-      attained_next Node (λ s u. (ranked p).is_open s u ≡ true) (first_at p) (next_from (ranked p))
+      attained_next WindowNode (λ s u. (ranked p).is_open s u ≡ true) (first_at p) (next_from (ranked p))
       (cost_at p) (Legal (ranked p).rules) (node_of p.k) (permits p) land latest (is_first_open p)
       (next_later (ranked p)) (costs_rise p) net
       w a r b at may e
@@ -49,24 +49,25 @@ module _ (p : Problem) (net : IsWindowNetwork p) (before : ℕ × List (List ℤ
   -- an undominated pair of a window of the next stage is the successor of a listed pair
   pub listed_given : (v : List ℤ) (q : Pair) → Undominated (Attains p (suc before.0) v) q
       → (j : ℕ) × (index : ℕ) × GivesPair p before lists v q j index
-  listed_given v q u = elim (attained_source Node (λ s t. (ranked p).is_open s t ≡ true) (first_at p)
+  listed_given v q u = elim (attained_source WindowNode (λ s t. (ranked p).is_open s t ≡ true) (first_at p)
       (next_from (ranked p)) (cost_at p) (Legal (ranked p).rules) (node_of p.k) (permits p) land latest
       (is_first_open p) (next_later (ranked p)) (costs_rise p) net (suc before.0, v) q u.attained) [
-        | inl z ↦ absurd (never (ap (λ (n : Node). n.0) z.0))
+        | inl z ↦ absurd (never (ap (λ (n : WindowNode). n.0) z.0))
         | inr z ↦ (
-            let same : z.0.0 ≡ before.0 = less (ap (λ (n : Node). n.0) z.5) in
+            let same : z.0.0 ≡ before.0 = less (ap (λ (n : WindowNode). n.0) z.5) in
             let l : IsLandable p before.0 z.0.1 = (z.2, subst (λ (s : ℕ). Attains p s z.0.1 z.2) same z.3) in
             let has = (held.landable z.0.1).1 l in
             let it : node_at before.1 has.0 ≡ z.0.1 = get_or_default before.1 has.0 [] z.0.1 has.1 ∙ has.2 in
             let at : z.0 ≡ (before.0, node_at before.1 has.0) =
             ap (λ (s : ℕ). (s, z.0.1)) same ∙ ap (λ (y : List ℤ). (before.0, y)) (sym it) in
             let a : Attains p before.0 (node_at before.1 has.0) z.2 =
-            subst (λ (n : Node). Attains p n.0 n.1 z.2) at z.3 in
-            let may : permits p (before.0, node_at before.1 has.0) z.1 = subst (λ (n : Node). permits p n z.1) at z.4 in
+            subst (λ (n : WindowNode). Attains p n.0 n.1 z.2) at z.3 in
+            let may : permits p (before.0, node_at before.1 has.0) z.1 =
+                subst (λ (n : WindowNode). permits p n z.1) at z.4 in
             let next : v ≡ shifted (node_at before.1 has.0) (offset_after before.0 z.1) =
-            sym (ap (λ (n : Node). n.1) z.5) ∙ ap (λ (n : Node). (land n z.1).1) at in
+            sym (ap (λ (n : WindowNode). n.1) z.5) ∙ ap (λ (n : WindowNode). (land n z.1).1) at in
             let late : next_from (ranked p) (latest (before.0, node_at before.1 has.0)) z.2.0 z.1 ≤ q.0 =
-            subst (λ (n : Node). next_from (ranked p) (latest n) z.2.0 z.1 ≤ q.0) at z.7 in
+            subst (λ (n : WindowNode). next_from (ranked p) (latest n) z.2.0 z.1 ≤ q.0) at z.7 in
             let o = (held.costs.pairs has.0 has.1).covers z.2 a in
             let b : Attains p before.0 (node_at before.1 has.0) o.0 =
             (((held.costs.pairs has.0 has.1).undominated o.0).0 o.1).attained in

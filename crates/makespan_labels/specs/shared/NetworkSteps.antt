@@ -16,7 +16,7 @@ use Rattle.landing_joint.specs.RankedProblem.{ranked, cost_at, landing_after}
 use Rattle.landing_joint.specs.shared.FirstOpen.{is_first_open}
 use Rattle.landing_rules.specs.Problem.{Problem}
 use Rattle.cps_network.specs.Landable.{IsLandable}
-use Rattle.cps_network.specs.Nodes.{Node, node_of, permits, latest, IsWindowNetwork}
+use Rattle.cps_network.specs.Nodes.{WindowNode, node_of, permits, latest, IsWindowNetwork}
 use Rattle.cps_network.specs.Permits.{IsPermitted}
 use Rattle.makespan_labels.specs.Labels.{CanLandAt}
 
@@ -41,7 +41,8 @@ module _ (p : Problem) (net : IsWindowNetwork p) where
   pub lands_next : (stage : ℕ) (x : List ℤ) (b r t : ℕ) → CanLandAt p stage x b → IsPermitted p stage x r
       → landing_after p (latest (stage, x)) b r ≡ Some t → CanLandAt p (suc stage) (shifted x (offset_after stage r)) t
   lands_next stage x b r t (cost, a) may e =
-      let here : permits p (node_of p.k (ranks a.landings)) r = subst (λ (n : Node). permits p n r) (sym a.at) may in
+      let here : permits p (node_of p.k (ranks a.landings)) r =
+          subst (λ (n : WindowNode). permits p n r) (sym a.at) may in
       let is : (latest_landing a.landings).1 ≡ b = ap (λ (q : Pair). q.0) a.is in
       let lead : latest (stage, x) ≡ (latest_landing a.landings).0 =
       ap latest (sym a.at) ∙ net.newest_is (ranks a.landings) a.legal ∙ last_ranks a.landings in
@@ -62,13 +63,13 @@ module _ (p : Problem) (net : IsWindowNetwork p) where
   landing_back : (stage : ℕ) (v : List ℤ) (t : ℕ) (xs : List Landing) → Legal (ranked p).rules (ranks xs)
       → LandedIn (ranked p) xs → node_of p.k (ranks xs) ≡ (suc stage, v) → (latest_landing xs).1 ≡ t
       → ComesFrom p stage v t
-  landing_back stage v t [] legal landed at is = absurd (never (ap (λ (n : Node). n.0) at))
+  landing_back stage v t [] legal landed at is = absurd (never (ap (λ (n : WindowNode). n.0) at))
     where
       never : 0 ≡ suc stage → ⊥
       never e = omega arith
   landing_back stage v t (y ∷ xs) legal landed at is =
       let s = net.shrinks y.0 (ranks xs) legal in
-      let long : length (ranks xs) ≡ stage = less (ap (λ (n : Node). n.0) at) in
+      let long : length (ranks xs) ≡ stage = less (ap (λ (n : WindowNode). n.0) at) in
       let x : List ℤ = window_of (2 * p.k + 1) (reverse (ranks xs)) in
       let here : node_of p.k (ranks xs) ≡ (stage, window_of (2 * p.k + 1) (reverse (ranks xs))) =
       ap (λ (q : ℕ). (q, window_of (2 * p.k + 1) (reverse (ranks xs)))) long in
@@ -82,7 +83,7 @@ module _ (p : Problem) (net : IsWindowNetwork p) where
           cost_of (cost_at p) xs,
           record { landings = xs; legal = s.0; landed = landed.2; at = here; is = refl },
         );
-        permitted = subst (λ (n : Node). permits p n y.0) here s.1;
+        permitted = subst (λ (n : WindowNode). permits p n y.0) here s.1;
         next = grind (arith, net.pushes);
         is_open = grind arith;
         apart = grind arith;
