@@ -15,7 +15,7 @@ use Rattle.endings.specs.declared.ending.Ending.{Ending}
 use Rattle.endings.specs.declared.ending.FilesFault.{FilesFault}
 use Rattle.endings.specs.declared.ending.FilesFault.TheVariants as refusal
 use Rattle.endings.specs.Files.{HoldsOfThree}
-use Rattle.endings.specs.Refusing.{RefusesThree, Stops, refusal_of}
+use Rattle.endings.specs.Refusing.{RefusesThree, Stops, opening_refusal}
 use Rattle.openings.specs.Follows.{FollowsAtOnce}
 use Rattle.certificate_commands.specs.Verdicts.{verdict_text, answer_of_verdict, IsTrueOf}
 
@@ -26,7 +26,7 @@ RefusesCheck = RefusesThree refusal.Certificate certificate_of
 -- says of that situation is true. The situation, the problem and the certificate have their numbers in their ranges.
 pub record IsJudged (aerodrome : Aerodrome) (flights : List Flight) (certificate : Cert)
     (verdict : Verdict) : Type 0 where
-  pub taken : refusal_of aerodrome flights ≡ None
+  pub taken : opening_refusal aerodrome flights ≡ None
   pub problem : Problem
   pub problem_of : IsProblemOf (opened aerodrome flights) problem
   pub verdict_is : verdict ≡ verdict_of problem certificate

@@ -12,7 +12,7 @@ use Rattle.endings.specs.declared.ending.Ending.{Ending}
 use Rattle.endings.specs.declared.ending.FilesFault.{FilesFault}
 use Rattle.endings.specs.declared.ending.FilesFault.TheVariants as refusal
 use Rattle.endings.specs.Files.{HoldsOfThree}
-use Rattle.endings.specs.Refusing.{RefusesThree, Stops, refusal_of}
+use Rattle.endings.specs.Refusing.{RefusesThree, Stops, opening_refusal}
 use Rattle.chart.specs.Pictures.{elements_of, found_of}
 use Rattle.chart.specs.Texts.{picture_text}
 
@@ -23,7 +23,7 @@ chart_text s plan = picture_text (elements_of s plan) (found_of s plan)
 -- The files are taken, and the text is the picture of the plan in their opening situation, which the answer says.
 pub record IsDrawn (aerodrome : Aerodrome) (flights : List Flight) (plan : PlanText) (text : List ℕ)
     (answer : Answer) : Type 0 where
-  pub taken : refusal_of aerodrome flights ≡ None
+  pub taken : opening_refusal aerodrome flights ≡ None
   pub prints : text ≡ chart_text (opened aerodrome flights) plan
   pub answers : answer ≡ Drawn
 

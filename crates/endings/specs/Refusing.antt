@@ -13,14 +13,14 @@ use Rattle.endings.specs.declared.ending.FilesFault as refusals
 use Rattle.endings.specs.declared.ending.FilesFault.TheVariants as refusal
 
 -- why files that read are not taken: they open no situation
-abbrev pub refusal_of : Aerodrome → List Flight → Option refusals.FilesFault
-refusal_of aerodrome flights = option_map refusal.Opening (opening_fault aerodrome flights)
+abbrev pub opening_refusal : Aerodrome → List Flight → Option refusals.FilesFault
+opening_refusal aerodrome flights = option_map refusal.Opening (opening_fault aerodrome flights)
 
 -- the first cause, in the order of the files
 abbrev pub refused_by : Result Aerodrome AeroFault → Result (List Flight) FlightFault → Option refusals.FilesFault
 refused_by (Err fault) flights = Some (refusal.Aerodrome fault)
 refused_by (Ok aerodrome) (Err fault) = Some (refusal.Flights fault)
-refused_by (Ok aerodrome) (Ok flights) = refusal_of aerodrome flights
+refused_by (Ok aerodrome) (Ok flights) = opening_refusal aerodrome flights
 
 -- the same with a third file, whose fault is a refusal of this kind
 abbrev pub refused_by_three : {T F : Type 0} → (F → refusals.FilesFault) → Result Aerodrome AeroFault
@@ -28,7 +28,7 @@ abbrev pub refused_by_three : {T F : Type 0} → (F → refusals.FilesFault) →
 refused_by_three kind (Err fault) flights third = Some (refusal.Aerodrome fault)
 refused_by_three kind (Ok aerodrome) (Err fault) third = Some (refusal.Flights fault)
 refused_by_three kind (Ok aerodrome) (Ok flights) (Err fault) = Some (kind fault)
-refused_by_three kind (Ok aerodrome) (Ok flights) (Ok third) = refusal_of aerodrome flights
+refused_by_three kind (Ok aerodrome) (Ok flights) (Ok third) = opening_refusal aerodrome flights
 
 -- the bytes of an aerodrome file and flights are refused, for this cause
 abbrev pub RefusesTwo : List ℕ → List ℕ → refusals.FilesFault → Type 0
@@ -48,4 +48,4 @@ Stops Refuses ending = ⊥
 
 -- the same over files that are read
 abbrev pub StopsOpened : Aerodrome → List Flight → Ending → Type 0
-StopsOpened aerodrome flights = Stops (λ cause. refusal_of aerodrome flights ≡ Some cause)
+StopsOpened aerodrome flights = Stops (λ cause. opening_refusal aerodrome flights ≡ Some cause)

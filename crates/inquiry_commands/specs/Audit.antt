@@ -21,7 +21,7 @@ use Rattle.endings.specs.declared.ending.Ending.{Ending}
 use Rattle.endings.specs.declared.ending.FilesFault.{FilesFault}
 use Rattle.endings.specs.declared.ending.FilesFault.TheVariants as refusal
 use Rattle.endings.specs.Files.{HoldsOfThree}
-use Rattle.endings.specs.Refusing.{RefusesThree, Stops, refusal_of}
+use Rattle.endings.specs.Refusing.{RefusesThree, Stops, opening_refusal}
 use Rattle.openings.specs.Follows.{FollowsAtOnce}
 
 abbrev pub RefusesAudit : List ℕ → List ℕ → List ℕ → FilesFault → Type 0
@@ -53,7 +53,7 @@ TellsClean s (plans.Block b) text = (text ≡ line (codes "ok")) ↔ IsClean s (
 -- The files are taken, and the text is what is found of the plan in their opening situation, which is sound.
 pub record IsAudited (aerodrome : Aerodrome) (flights : List Flight) (plan : PlanText) (text : List ℕ)
     (answer : Answer) : Type 0 where
-  pub taken : refusal_of aerodrome flights ≡ None
+  pub taken : opening_refusal aerodrome flights ≡ None
   pub prints : text ≡ audit_text (opened aerodrome flights) plan
   pub answers : answer ≡ audit_answer (opened aerodrome flights) plan
   pub sound : IsSound (opened aerodrome flights)

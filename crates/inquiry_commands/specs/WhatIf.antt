@@ -20,7 +20,7 @@ use Rattle.endings.specs.declared.ending.Ending.{Ending}
 use Rattle.endings.specs.declared.ending.FilesFault.{FilesFault}
 use Rattle.endings.specs.declared.ending.FilesFault.TheVariants as refusal
 use Rattle.endings.specs.Files.{HoldsOfThree}
-use Rattle.endings.specs.Refusing.{RefusesThree, Stops, refusal_of}
+use Rattle.endings.specs.Refusing.{RefusesThree, Stops, opening_refusal}
 use Rattle.openings.specs.Follows.{FollowsAtOnce}
 
 abbrev pub RefusesWhatIf : List ℕ → List ℕ → List ℕ → FilesFault → Type 0
@@ -29,7 +29,7 @@ RefusesWhatIf = RefusesThree refusal.Trials trials_of
 -- The files are taken, with their numbers in range and at most 16 trials, and open a sound situation. The text has a
 -- line for the outcome as they are and for that of each trial.
 pub record AreTried (aerodrome : Aerodrome) (flights : List Flight) (trials : List Trial) (text : List ℕ) : Type 0 where
-  pub taken : refusal_of aerodrome flights ≡ None
+  pub taken : opening_refusal aerodrome flights ≡ None
   pub range : IsInRange aerodrome
   pub good : All IsGood trials
   pub few : length trials ≤ most_trials

@@ -19,7 +19,7 @@ use Rattle.endings.specs.declared.ending.Answer.TheVariants.{Scheduled, Infeasib
 use Rattle.endings.specs.declared.ending.Ending.{Ending}
 use Rattle.endings.specs.declared.ending.FilesFault.{FilesFault}
 use Rattle.endings.specs.Files.{HoldsOfTwo}
-use Rattle.endings.specs.Refusing.{RefusesTwo, Stops, refusal_of}
+use Rattle.endings.specs.Refusing.{RefusesTwo, Stops, opening_refusal}
 
 abbrev pub RefusesPlan : List ℕ → List ℕ → FilesFault → Type 0
 RefusesPlan = RefusesTwo
@@ -33,7 +33,7 @@ answer_of plan = answer_by (is_some plan)
 
 -- The files are taken, and this is an opening state of them, which is sound.
 pub record IsOpened (aerodrome : Aerodrome) (flights : List Flight) (state : State) : Type 0 where
-  pub taken : refusal_of aerodrome flights ≡ None
+  pub taken : opening_refusal aerodrome flights ≡ None
   pub opens : IsOpeningState (opening_of aerodrome) (map flight_of flights) state
   pub sound : IsSoundState state
 

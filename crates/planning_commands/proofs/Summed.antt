@@ -16,7 +16,7 @@ use Rattle.traffic_lands.specs.Landing.{ShowsPlan}
 use Rattle.plan_text.specs.Trial.{trial_text}
 use Rattle.endings.specs.declared.ending.Answer.{Answer}
 use Rattle.endings.specs.declared.ending.Ending.{Ending}
-use Rattle.endings.specs.Refusing.{refusal_of, StopsOpened}
+use Rattle.endings.specs.Refusing.{opening_refusal, StopsOpened}
 use Rattle.endings.specs.shared.Refusing.{stops_by}
 use Rattle.openings.specs.Plan.{answer_by, answer_of, IsOpened, IsPlannedAnew}
 use Rattle.endings.specs.declared.ending.FilesFault.TheVariants.{Opening}
@@ -49,5 +49,5 @@ sums made n k nodes aerodrome flights s text answer a_is f_is opened planned pri
 -- files that open are stopped by memory alone
 pub stops_short : (aerodrome : Aerodrome) (flights : List Flight) (ending : Ending)
     → opening_fault aerodrome flights ≡ None → StopsOpened aerodrome flights ending → StopsTrial ending
-stops_short aerodrome flights ending opens = stops_by (λ cause. refusal_of aerodrome flights ≡ Some cause)
+stops_short aerodrome flights ending opens = stops_by (λ cause. opening_refusal aerodrome flights ≡ Some cause)
     (λ cause. ⊥) ending (λ cause refused. none-some _ (sym (ap (option_map Opening) opens) ∙ refused))

@@ -24,7 +24,7 @@ use Rattle.endings.specs.declared.ending.FilesFault.{FilesFault}
 use Rattle.endings.specs.declared.ending.FilesFault.TheVariants as refusal
 use Rattle.openings.specs.Follows.{FollowsBy}
 use Rattle.endings.specs.Files.{HoldsOfThree}
-use Rattle.endings.specs.Refusing.{RefusesThree, Stops, refusal_of}
+use Rattle.endings.specs.Refusing.{RefusesThree, Stops, opening_refusal}
 use Rattle.openings.specs.Plan.{answer_by, answer_of}
 
 abbrev pub RefusesReplay : List ℕ → List ℕ → List ℕ → FilesFault → Type 0
@@ -36,7 +36,7 @@ pub record Starts (state : State) (events : List rules.Event) (aerodrome : Aerod
     (log : List Event) : Type 0 where
   pub range : IsInRange aerodrome
   pub few : length log ≤ most_events
-  pub taken : refusal_of aerodrome flights ≡ None
+  pub taken : opening_refusal aerodrome flights ≡ None
   pub opens : IsOpeningState (opening_of aerodrome) (map flight_of flights) state
   pub sound : IsSoundState state
   pub events_are : events ≡ map event_of log

@@ -9,7 +9,7 @@ use Rattle.arrivals.specs.declared.flight.Flight.{Flight}
 use Rattle.flight_file.specs.Reading.{flights_of}
 use Rattle.flight_file.specs.declared.fault.FlightFault.{FlightFault}
 use Rattle.endings.specs.Files.{HoldsOfTwo, HoldsOfThree}
-use Rattle.endings.specs.Refusing.{refusal_of, refused_by, refused_by_three}
+use Rattle.endings.specs.Refusing.{opening_refusal, refused_by, refused_by_three}
 use Rattle.endings.specs.declared.ending.FilesFault.{FilesFault}
 
 module _ (a f : List ℕ) (P : Aerodrome → List Flight → Type 0) (x : HoldsOfTwo a f P) where
@@ -29,7 +29,7 @@ module _ (a f : List ℕ) (P : Aerodrome → List Flight → Type 0) (x : HoldsO
       subst (λ (b : Aerodrome). R b x.flights) aerodromes (subst (λ (l : List Flight). R y.aerodrome l) flights there)
 
   -- where they are taken they are not refused
-  pub two_taken : (cause : FilesFault) → refusal_of x.aerodrome x.flights ≡ None
+  pub two_taken : (cause : FilesFault) → opening_refusal x.aerodrome x.flights ≡ None
       → refused_by (aerodrome_of a) (flights_of f) ≡ Some cause → ⊥
   two_taken cause taken refused = none-some _ (sym (of_two (λ r q. refused_by r q ≡ None) taken) ∙ refused)
 
@@ -52,7 +52,7 @@ module _ {T F : Type 0} (read : List ℕ → Result T F) (a f t : List ℕ) (P :
       (subst (λ (l : List Flight). R y.aerodrome l x.third) flights
       (subst (λ (u : T). R y.aerodrome y.flights u) thirds there))
 
-  pub three_taken : (kind : F → FilesFault) (cause : FilesFault) → refusal_of x.aerodrome x.flights ≡ None
+  pub three_taken : (kind : F → FilesFault) (cause : FilesFault) → opening_refusal x.aerodrome x.flights ≡ None
       → refused_by_three kind (aerodrome_of a) (flights_of f) (read t) ≡ Some cause → ⊥
   three_taken kind cause taken refused =
       none-some _ (sym (of_three (λ r q s. refused_by_three kind r q s ≡ None) taken) ∙ refused)

@@ -10,7 +10,7 @@ use Rattle.situations.specs.Refused.{opening_fault}
 use Rattle.situations.specs.declared.begin_fault.BeginFault.{BeginFault}
 use Rattle.situations.specs.Begun.{IsRefusedBy, opening_fault_of}
 use Rattle.endings.specs.Faults.{begin_ending, opening_ending}
-use Rattle.endings.specs.Refusing.{refusal_of, refused_by_three, Stops, StopsOpened}
+use Rattle.endings.specs.Refusing.{opening_refusal, refused_by_three, Stops, StopsOpened}
 use Rattle.endings.specs.declared.ending.Ending.{Ending}
 use Rattle.endings.specs.declared.ending.Ending.TheVariants.{Refused}
 use Rattle.endings.specs.declared.ending.Ending.TheVariants.{NoMemory}
@@ -21,14 +21,14 @@ use Rattle.endings.specs.declared.ending.FilesFault.TheVariants.{Opening}
 pub refused_as_read : {T F : Type 0} (kind : F → FilesFault) (a : Result Aerodrome AeroFault)
     (f : Result (List Flight) FlightFault) (t : Result T F) →
     (aerodrome : Aerodrome) (flights : List Flight) (third : T) → a ≡ Ok aerodrome → f ≡ Ok flights → t ≡ Ok third →
-    refused_by_three kind a f t ≡ refusal_of aerodrome flights
+    refused_by_three kind a f t ≡ opening_refusal aerodrome flights
 refused_as_read kind a f t aerodrome flights third a_read f_read t_read =
     ap (λ r. refused_by_three kind r f t) a_read ∙ ap (λ r. refused_by_three kind (Ok aerodrome) r t) f_read
     ∙ ap (λ r. refused_by_three kind (Ok aerodrome) (Ok flights) r) t_read
 
 -- files that open a situation are taken
 pub opened_taken : (aerodrome : Aerodrome) (flights : List Flight) → opening_fault aerodrome flights ≡ None
-    → refusal_of aerodrome flights ≡ None
+    → opening_refusal aerodrome flights ≡ None
 opened_taken aerodrome flights none = ap (option_map Opening) none
 
 -- files that open none are refused for that cause, or memory is short

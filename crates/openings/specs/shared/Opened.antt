@@ -5,7 +5,7 @@ use Rattle.aerodrome_file.specs.Reading.{aerodrome_of}
 use Rattle.arrivals.specs.declared.flight.Flight.{Flight}
 use Rattle.flight_file.specs.Reading.{flights_of}
 use Rattle.endings.specs.Files.{HoldsOfTwo, HoldsOfThree}
-use Rattle.endings.specs.Refusing.{RefusesThree, RefusesTwo, refusal_of, refused_by, Stops, StopsOpened}
+use Rattle.endings.specs.Refusing.{RefusesThree, RefusesTwo, opening_refusal, refused_by, Stops, StopsOpened}
 use Rattle.endings.specs.declared.ending.Ending.{Ending}
 use Rattle.endings.specs.declared.ending.FilesFault.{FilesFault}
 use Rattle.endings.specs.shared.Refusing.{refused_as_read, stops_by}
@@ -23,7 +23,7 @@ of_bytes Holds (Ok x) a f aerodrome flights a_read f_read holds = record {
   flights_read = f_read;
   holds = holds;
 }
-of_bytes Holds (Err ending) a f aerodrome flights a_read f_read stops = stops_by (λ cause. refusal_of aerodrome
+of_bytes Holds (Err ending) a f aerodrome flights a_read f_read stops = stops_by (λ cause. opening_refusal aerodrome
     flights ≡ Some cause) (RefusesTwo a f) ending (λ cause refused. ap₂ refused_by a_read f_read ∙ refused) stops
 
 -- the same with a third file, whose fault is a refusal of this kind
@@ -43,5 +43,5 @@ of_three_bytes kind read Holds (Ok x) a f t aerodrome flights third a_read f_rea
   holds = holds;
 }
 of_three_bytes kind read Holds (Err ending) a f t aerodrome flights third a_read f_read t_read stops =
-    stops_by (λ cause. refusal_of aerodrome flights ≡ Some cause) (RefusesThree kind read a f t) ending
+    stops_by (λ cause. opening_refusal aerodrome flights ≡ Some cause) (RefusesThree kind read a f t) ending
     (λ cause refused. refused_as_read kind _ _ _ _ _ _ a_read f_read t_read ∙ refused) stops
