@@ -4,21 +4,15 @@
 use cps_outside::{FreeGate, RealFolder, RealSink};
 use cps_top::run;
 use std::env;
-use std::env::Env;
 use std::io::{self, ErrorKind};
 use std::process::ExitCode;
 
-// The words after the program's name.
-fn words<R: Env + AllocGlobal>(rt: &R) -> io::Result<Vec<String>> {
-    let mut words = Vec::new(rt.alloc());
-    for word in env::args(rt)?.skip(1) {
-        words.push(word)?;
-    }
-    Ok(words)
-}
-
 fn main(rt: HostRuntime) -> ExitCode {
-    match words(&rt) {
+    // The words after the program's name.
+    let words = env::args(&rt).and_then(|args| -> io::Result<Vec<String>> {
+        Ok(args.skip(1).collect(rt.alloc())?)
+    });
+    match words {
         Ok(words) => {
             let mut folder = RealFolder::new(&rt);
             let mut out = RealSink::new(rt.stdout());

@@ -1,4 +1,6 @@
 pub mod Rows
+pub mod Values
+pub mod ValuesLaw
 pub mod Left
 pub mod Extent
 pub mod Plain

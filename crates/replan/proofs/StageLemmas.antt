@@ -52,8 +52,11 @@ start_pair p v q a = rw (no_landing a.landings (ap (λ n. n.0) a.at)) at a.is
 
 pub start_costs : (p : Problem) → HoldsCosts p (0, replicate (2 * p.k + 1) (pos 0) ∷ []) (((0, 0) ∷ []) ∷ [])
 start_costs p = record {
-  landable = λ v. (in_start v, λ l.
-      (0, omega arith, sym (source_is p) ∙ ap (λ (n : WindowNode). n.1) (start_only p v l)));
+  landable = λ v. (
+    in_start v,
+    λ l.
+        (0, omega arith, sym (source_is p) ∙ ap (λ (n : WindowNode). n.1) (start_only p v l)),
+  );
   costs = record { one_each = refl; pairs = pairs };
 }
   where

@@ -63,7 +63,7 @@ module _ (p : Problem) (net : IsWindowNetwork p) (before : ℕ × List (List ℤ
             let a : Attains p before.0 (node_at before.1 has.0) z.2 =
             subst (λ (n : WindowNode). Attains p n.0 n.1 z.2) at z.3 in
             let may : permits p (before.0, node_at before.1 has.0) z.1 =
-                subst (λ (n : WindowNode). permits p n z.1) at z.4 in
+            subst (λ (n : WindowNode). permits p n z.1) at z.4 in
             let next : v ≡ shifted (node_at before.1 has.0) (offset_after before.0 z.1) =
             sym (ap (λ (n : WindowNode). n.1) z.5) ∙ ap (λ (n : WindowNode). (land n z.1).1) at in
             let late : next_from (ranked p) (latest (before.0, node_at before.1 has.0)) z.2.0 z.1 ≤ q.0 =

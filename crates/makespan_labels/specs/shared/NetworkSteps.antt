@@ -42,7 +42,7 @@ module _ (p : Problem) (net : IsWindowNetwork p) where
       → landing_after p (latest (stage, x)) b r ≡ Some t → CanLandAt p (suc stage) (shifted x (offset_after stage r)) t
   lands_next stage x b r t (cost, a) may e =
       let here : permits p (node_of p.k (ranks a.landings)) r =
-          subst (λ (n : WindowNode). permits p n r) (sym a.at) may in
+      subst (λ (n : WindowNode). permits p n r) (sym a.at) may in
       let is : (latest_landing a.landings).1 ≡ b = ap (λ (q : Pair). q.0) a.is in
       let lead : latest (stage, x) ≡ (latest_landing a.landings).0 =
       ap latest (sym a.at) ∙ net.newest_is (ranks a.landings) a.legal ∙ last_ranks a.landings in
