@@ -4,7 +4,7 @@ ghost use Rattle.cps_base.specs.Answers.{GivesAs};
 ghost use Rattle.cps_base.specs.Limits.{most_events};
 ghost use Rattle.event_log.specs.Answers.{memory_fault};
 ghost use Rattle.arrivals.specs.Seen.{IsGood};
-ghost use Rattle.event_log.specs.Reading.{is_header, event_in, added, events_in, events_by, events_of};
+ghost use Rattle.event_log.specs.Reading.{is_header, event_in, and_in, events_in, events_by, events_of};
 
 use crate::fault::{LogCause, LogFault};
 use crate::kinds::event_by;
@@ -51,7 +51,7 @@ fn add_event(events: &mut Vec<Event>, row: &ByteRecord) -> Result<(), LogFault>
     requires few { vec_len events.old ≤ most_events }
     requires good { All IsGood events.old.items }
     ensures value { GivesAs memory_fault (λ _. events.new.items) result
-        (added events.old.items (event_in (length events.old.items) (fields_of row.now))) }
+        (and_in events.old.items (fields_of row.now)) }
     ensures few { OnOk result (vec_len events.new ≤ most_events) }
     ensures good { OnOk result (All IsGood events.new.items) }
 {
@@ -68,7 +68,7 @@ fn add_event(events: &mut Vec<Event>, row: &ByteRecord) -> Result<(), LogFault>
 }
 
 // The events of the records that are left.
-#[tactic(auto, unfolding(crate::specs::Reading::events_in))]
+#[tactic(auto, unfolding(csv_records::specs::Values::values_in))]
 fn events_in(
     alloc: Global,
     records: &mut Records,
@@ -86,7 +86,7 @@ fn events_in(
 }
 
 // The events of all records of a log.
-#[tactic(auto, unfolding(crate::specs::Reading::events_by))]
+#[tactic(auto, unfolding(csv_records::specs::Values::values_by))]
 fn events_by(alloc: Global, records: &mut Records) -> Result<Vec<Event>, LogFault>
     ensures value { GivesAs memory_fault (λ v. v.items) result (events_by records.old) }
     ensures few { IfOk result (λ v. vec_len v ≤ most_events) }

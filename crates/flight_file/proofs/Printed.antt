@@ -7,10 +7,11 @@ use Rattle.cps_base.specs.Limits.{most_flights}
 use Rattle.csv.specs.Reading.{strip_bom}
 use Rattle.wake_table.specs.Letters.{letter}
 use Rattle.csv_records.specs.Rows.{Fields, records_of}
+use Rattle.csv_records.specs.Values.{values_in, values_by}
 use Rattle.csv_records.specs.Plain.{plain_text, IsPlainRow, ArePlainRows}
 use Rattle.csv_records.specs.PlainLaw.{plain_high, records_of-plain}
 use Rattle.arrivals.specs.declared.flight.Flight.{Flight}
-use Rattle.flight_file.specs.Reading.{is_header, has_callsign, flight_by, flight_in, flights_in, flights_by, flights_of}
+use Rattle.flight_file.specs.Reading.{is_header, has_callsign, flight_by, flight_in, flights_in, flights_of}
 use Rattle.flight_file.specs.Printed.{header, flight_fields, flights_text, names_text, windows_text}
 use Rattle.arrivals.specs.Flights.{AreArrivals}
 use Rattle.flight_file.specs.Kept.{AreKept}
@@ -28,7 +29,7 @@ flight_read fs f h other room = grind (arith, nat_le, category_read, number_read
 -- the records behind the header
 rows_read : (fs gs : List Flight) → ArePrintable fs gs → length fs + length gs ≤ most_flights
     → flights_in fs (map flight_fields gs) ≡ Ok (fs ++ gs)
-unfolding flights_in
+unfolding values_in
 rows_read fs [] h room = ap Ok (sym (append-nil fs))
 rows_read fs (g ∷ gs) h room =
     rw (flight_read fs g h.0 h.1 (omega arith)) ((rows_read (fs ++ g ∷ []) gs h.2 (omega (
@@ -72,7 +73,7 @@ header_read = refl
 
 -- reading what was printed gives the flights again
 pub read_printed : (fs : List Flight) → AreArrivals fs → AreKept fs → flights_of (flights_text fs) ≡ Ok fs
-unfolding flights_by
+unfolding values_by
 read_printed fs can kept =
     let h : ArePrintable [] fs = are_printable fs can kept in
     let rows = header ∷ map flight_fields fs in

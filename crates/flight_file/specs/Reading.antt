@@ -1,11 +1,12 @@
 -- The flights of a file, or the first fault of its first record that has one, over the records that `csv` reads.
-use Rattle.std.specs.Prelude.{ℕ, List, [], ◌∷◌, ◌++◌, Bool, not, ◌==◌, ◌&&◌, ◌+◌, nat_le, length, codes, bytes_eq}
+use Rattle.std.specs.Prelude.{ℕ, List, Bool, not, ◌==◌, ◌&&◌, nat_le, length, codes, bytes_eq}
 use Rattle.std.specs.Prelude.{Option, Some, None, Result, Ok, Err, if◌then◌else◌}
 use Rattle.std.specs.List.{list_any}
 use Rattle.cps_base.specs.Answers.{fault_as, ◌>>=◌}
 use Rattle.cps_base.specs.Limits.{greatest_weight, most_flights}
 use Rattle.landing_rules.specs.Rules.{last_second}
 use Rattle.csv_records.specs.Rows.{Fields, field, records_of}
+use Rattle.csv_records.specs.Values.{added, values_in, values_by}
 use Rattle.cps_base.specs.Text.{is_callsign}
 use Rattle.cps_base.specs.Number.{number_within}
 use Rattle.wake_table.specs.declared.category.Category.{Category}
@@ -62,24 +63,25 @@ flight_in before r =
     if not (length r == 6) then Err cause.FieldCount
     else flight_by before (field r 0) (field r 1) (field r 2) (field r 3) (field r 4) (field r 5)
 
+-- a fault of the record of a number
+abbrev pub fault_at : ℕ → FlightCause → FlightFault
+fault_at n c = record { number = n; cause = c }
+
 -- the first record is not the header
 abbrev pub header_fault : FlightFault
-header_fault = record { number = 1; cause = cause.Header }
+header_fault = fault_at 1 cause.Header
 
--- one flight more; records are numbered from 1, and the header is the first
-abbrev pub added : List Flight → Result Flight FlightCause → Result (List Flight) FlightFault
-added before (Ok f) = Ok (before ++ f ∷ [])
-added before (Err c) = Err (record { number = length before + 2; cause = c })
+-- the flights before a record, and that of the record
+abbrev pub and_in : List Flight → Fields → Result (List Flight) FlightFault
+and_in before r = added fault_at before (flight_in before r)
 
 -- the flights of the records behind the header, behind the flights before them
-unfoldable pub flights_in : List Flight → List Fields → Result (List Flight) FlightFault
-flights_in before [] = Ok before
-flights_in before (r ∷ rs) = added before (flight_in before r) >>= (λ flights. flights_in flights rs)
+abbrev pub flights_in : List Flight → List Fields → Result (List Flight) FlightFault
+flights_in = values_in and_in
 
 -- the flights of all records
-unfoldable pub flights_by : List Fields → Result (List Flight) FlightFault
-flights_by [] = Err header_fault
-flights_by (r ∷ rs) = if is_header r then flights_in [] rs else Err header_fault
+abbrev pub flights_by : List Fields → Result (List Flight) FlightFault
+flights_by = values_by and_in is_header header_fault
 
 -- the flights of a file
 abbrev pub flights_of : List ℕ → Result (List Flight) FlightFault

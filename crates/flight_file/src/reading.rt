@@ -4,7 +4,7 @@ ghost use Rattle.cps_base.specs.Answers.{GivesAs};
 ghost use Rattle.cps_base.specs.Limits.{most_flights};
 ghost use Rattle.flight_file.specs.Answers.{memory_fault};
 ghost use Rattle.arrivals.specs.Flights.{IsArrival, AreArrivals};
-ghost use Rattle.flight_file.specs.Reading.{is_header, has_callsign, flight_in, flight_by, added, flights_in, flights_by, flights_of};
+ghost use Rattle.flight_file.specs.Reading.{is_header, has_callsign, flight_in, flight_by, and_in, flights_in, flights_by, flights_of};
 
 use crate::after::read_after;
 use crate::fault::{FlightCause, FlightFault};
@@ -91,7 +91,7 @@ fn flight_in(flights: &[Flight], row: &ByteRecord) -> Result<Flight, FlightCause
 fn add_flight(flights: &mut Vec<Flight>, row: &ByteRecord) -> Result<(), FlightFault>
     requires { AreArrivals flights.old.items }
     ensures value { GivesAs memory_fault (λ _. flights.new.items) result
-        (added flights.old.items (flight_in flights.old.items (fields_of row.now))) }
+        (and_in flights.old.items (fields_of row.now)) }
     ensures of_file { OnOk result (AreArrivals flights.new.items) }
 {
     match flight_in(flights.as_slice(), row) {
@@ -107,7 +107,7 @@ fn add_flight(flights: &mut Vec<Flight>, row: &ByteRecord) -> Result<(), FlightF
 }
 
 // The flights of the records that are left.
-#[tactic(auto, unfolding(crate::specs::Reading::flights_in))]
+#[tactic(auto, unfolding(csv_records::specs::Values::values_in))]
 fn flights_in(
     alloc: Global,
     records: &mut Records,
@@ -124,7 +124,7 @@ fn flights_in(
 }
 
 // The flights of all records of a file.
-#[tactic(auto, unfolding(crate::specs::Reading::flights_by))]
+#[tactic(auto, unfolding(csv_records::specs::Values::values_by))]
 fn flights_by(alloc: Global, records: &mut Records) -> Result<Vec<Flight>, FlightFault>
     ensures value { GivesAs memory_fault (λ v. v.items) result (flights_by records.old) }
     ensures of_file { IfOk result (λ v. AreArrivals v.items) }

@@ -1,9 +1,10 @@
 -- The trials of a file, or the first fault of its first record that has one, over the records that `csv` reads.
-use Rattle.std.specs.Prelude.{ℕ, List, [], ◌∷◌, ◌++◌, Bool, not, ◌==◌, ◌&&◌, ◌+◌, nat_le, length, codes, bytes_eq}
+use Rattle.std.specs.Prelude.{ℕ, List, Bool, not, ◌==◌, ◌&&◌, nat_le, length, codes, bytes_eq}
 use Rattle.std.specs.Prelude.{Result, Ok, Err, if◌then◌else◌}
 use Rattle.cps_base.specs.Limits.{greatest_k}
 use Rattle.cps_base.specs.Answers.{fault_as, ok_map, ◌>>=◌}
 use Rattle.csv_records.specs.Rows.{Fields, field, records_of}
+use Rattle.csv_records.specs.Values.{added, values_in, values_by}
 use Rattle.cps_base.specs.Number.{number_within}
 use Rattle.event_log.specs.declared.fault.FieldCause.TheVariants as field_cause
 use Rattle.event_log.specs.Spans.{span_in}
@@ -39,28 +40,25 @@ trial_in n r =
     if not (length r == 2) then Err cause.FieldCount
     else (trial_by (field r 0) (field r 1) >>= (λ t. if nat_le most_trials n then Err cause.TooMany else Ok t))
 
+-- a fault of the record of a number
+abbrev pub fault_at : ℕ → TrialCause → TrialFault
+fault_at n c = record { number = n; cause = c }
+
 -- the first record is not the header
 abbrev pub header_fault : TrialFault
-header_fault = record { number = 1; cause = cause.Header }
-
--- one trial more; records are numbered from 1, and the header is the first
-abbrev pub added : List Trial → Result Trial TrialCause → Result (List Trial) TrialFault
-added before (Ok t) = Ok (before ++ t ∷ [])
-added before (Err c) = Err (record { number = length before + 2; cause = c })
+header_fault = fault_at 1 cause.Header
 
 -- the trials before a record, and that of the record
 abbrev pub and_in : List Trial → Fields → Result (List Trial) TrialFault
-and_in before r = added before (trial_in (length before) r)
+and_in before r = added fault_at before (trial_in (length before) r)
 
 -- the trials of the records behind the header, behind the trials before them
-unfoldable pub trials_in : List Trial → List Fields → Result (List Trial) TrialFault
-trials_in before [] = Ok before
-trials_in before (r ∷ rs) = and_in before r >>= (λ trials. trials_in trials rs)
+abbrev pub trials_in : List Trial → List Fields → Result (List Trial) TrialFault
+trials_in = values_in and_in
 
 -- the trials of all records
-unfoldable pub trials_by : List Fields → Result (List Trial) TrialFault
-trials_by [] = Err header_fault
-trials_by (r ∷ rs) = if is_header r then trials_in [] rs else Err header_fault
+abbrev pub trials_by : List Fields → Result (List Trial) TrialFault
+trials_by = values_by and_in is_header header_fault
 
 -- the trials of a file
 abbrev pub trials_of : List ℕ → Result (List Trial) TrialFault

@@ -100,7 +100,7 @@ fn add_trial(all: &mut Vec<Trial>, row: &ByteRecord) -> Result<(), TrialFault>
 }
 
 // The trials of the records that are left.
-#[tactic(auto, unfolding(crate::specs::Reading::trials_in))]
+#[tactic(auto, unfolding(csv_records::specs::Values::values_in))]
 fn trials_in(
     alloc: Global,
     records: &mut Records,
@@ -118,7 +118,7 @@ fn trials_in(
 }
 
 // The trials of all records of a file.
-#[tactic(auto, unfolding(crate::specs::Reading::trials_by))]
+#[tactic(auto, unfolding(csv_records::specs::Values::values_by))]
 fn trials_by(alloc: Global, records: &mut Records) -> Result<Vec<Trial>, TrialFault>
     ensures value { GivesAs memory_fault (λ v. v.items) result (trials_by records.old) }
     ensures few { IfOk result (λ v. vec_len v ≤ most_trials) }

@@ -11,9 +11,10 @@ use Rattle.cps_base.specs.Limits.{most_closures, most_flights, most_waiting}
 use Rattle.arrivals.specs.declared.event.Event as log
 use Rattle.arrivals.specs.Seen.{event_of}
 use Rattle.csv_records.specs.Rows.{Fields}
+use Rattle.csv_records.specs.Values.{added, values_in, values_by}
 use Rattle.event_log.specs.declared.fault.LogCause.{LogCause}
 use Rattle.event_log.specs.Kinds.{add_in, cancel_in, clock_in, close_in, estimate_in, event_by, reopen_in}
-use Rattle.event_log.specs.Reading.{added, event_in, events_by, events_in, events_of}
+use Rattle.event_log.specs.Reading.{event_in, events_by, events_in, events_of, fault_at}
 use Rattle.text_bounds.specs.Replays.{HasShortName, IsInDays}
 use Rattle.text_bounds.specs.shared.Lengths.{callsign_short, second_short}
 use Rattle.std.specs.List.{list_any}
@@ -83,18 +84,18 @@ unfolding event_in
 record_named n r = grind (arith, by_cond, then_ok, kind_named)
 
 added_named : (before : List log.Event) (x : Result log.Event LogCause) → All IsNamed before → IfOk x IsNamed
-    → IfOk (added before x) (All IsNamed)
+    → IfOk (added fault_at before x) (All IsNamed)
 added_named before x all named = grind (arith, common_steps)
 
 rows_named : (before : List log.Event) (rs : List Fields) → All IsNamed before
     → IfOk (events_in before rs) (All IsNamed)
-unfolding events_in
+unfolding values_in
 rows_named before [] all = all
 rows_named before (r ∷ rs) all = then_ok _ _ _ _ (added_named _ _ all (record_named _ r))
     (λ events named. rows_named events rs named)
 
 all_named : (rs : List Fields) → IfOk (events_by rs) (All IsNamed)
-unfolding events_by
+unfolding values_by
 all_named rs = grind (arith, by_cond, rows_named, All-nil)
 
 pub log_named : (bytes : List ℕ) (es : List log.Event) → events_of bytes ≡ Ok es → All HasShortName (map event_of es)
