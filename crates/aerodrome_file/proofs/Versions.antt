@@ -16,7 +16,7 @@ use Rattle.arrivals.specs.declared.passed_list.PassedCount.{PassedCount}
 use Rattle.aerodrome_file.specs.declared.fault.Key.TheVariants as key
 use Rattle.aerodrome_file.specs.declared.fault.Part.{Part}
 use Rattle.aerodrome_file.specs.declared.fault.Part.TheVariants as part
-use Rattle.aerodrome_file.specs.Keys.{is_known, only}
+use Rattle.aerodrome_file.specs.Keys.{is_known, only_in}
 use Rattle.aerodrome_file.specs.Values.{number_in}
 use Rattle.aerodrome_file.specs.Version.{version_of, HasKeysOf}
 use Rattle.aerodrome_file.specs.Frozen.{clock_in, frozen_in}
@@ -24,15 +24,15 @@ use Rattle.aerodrome_file.specs.Passed.{passed_in}
 use Rattle.arrivals.specs.Aerodromes.{is_delay, most_shift, is_beyond}
 
 -- a key that a part does not have is at no value
-pub only_absent : (v : ℕ) (p : Part) (k : List ℕ) (ms : Members) → only v p ms ≡ Ok (tt {0})
+pub only_absent : (v : ℕ) (p : Part) (k : List ℕ) (ms : Members) → only_in v p ms ≡ Ok (tt {0})
     → is_known v p k ≡ false → get_member k ms ≡ None
-unfolding only
+unfolding only_in
 only_absent v p k no_members e unknown = refl
 only_absent v p k (member l d ms) e unknown =
     elim (cases_Bool (is_known v p l)) [
       | inr other ↦ absurd (cc (rw other at e))
       | inl known ↦
-          let rest : only v p ms ≡ Ok (tt {0}) = rw known at e in
+          let rest : only_in v p ms ≡ Ok (tt {0}) = rw known at e in
           by (slice_cmp nat_cmp k l) refl known (only_absent v p k ms rest unknown)
     ]
   where
@@ -61,7 +61,7 @@ not_passed (suc zero) low = refl
 not_passed (suc (suc zero)) low = refl
 not_passed (suc (suc (suc v))) low = absurd (omega (arith, low))
 
-pub keys_of : (v : ℕ) (ms : Members) → only v part.Top ms ≡ Ok (tt {0}) → HasKeysOf v ms
+pub keys_of : (v : ℕ) (ms : Members) → only_in v part.Top ms ≡ Ok (tt {0}) → HasKeysOf v ms
 keys_of v ms e = record {
   clock = λ low. only_absent v part.Top (codes "clock") ms e (not_clock v low);
   frozen = λ low. only_absent v part.Top (codes "frozen") ms e (not_frozen v low);

@@ -22,7 +22,7 @@ are_tables (item d ds) = false
 -- the two seconds of closure i
 unfoldable pub closure_in : ℕ → Members → Result (ℕ × ℕ) AeroFault
 closure_in i ms = do
-  _ ← only 1 (part.Closure i) ms
+  _ ← only (part.Closure i) ms
   from ← present (key.From i) (get_member (codes "from") ms)
   to ← present (key.To i) (get_member (codes "to") ms)
   first ← integer_of (key.From i) from

@@ -50,7 +50,7 @@ table_or (Err e) = Err (fault.Table e)
 -- the table of separations
 unfoldable pub rows_in : Members → Result (List (List ℕ)) AeroFault
 rows_in ms = do
-  _ ← only 1 part.Table ms
+  _ ← only part.Table ms
   rows ← rows_of letters ms
   table_or (table_of rows)
 

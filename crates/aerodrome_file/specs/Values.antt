@@ -50,7 +50,7 @@ number_in k least most (Some d) = Err (fault.WrongKind k)
 -- the callsign and the integer of an entry, each at its key
 unfoldable pub named_number : Part → Key → Key → List ℕ → Members → Result (List ℕ × ℤ) AeroFault
 named_number p name_key number_key word ms = do
-  _ ← only 1 p ms
+  _ ← only p ms
   callsign ← present name_key (get_member (codes "callsign") ms)
   number ← present number_key (get_member word ms)
   text ← string_of name_key callsign

@@ -5,7 +5,7 @@ use Rattle.cps_base.specs.Answers.{◌>>=◌}
 use Rattle.aerodrome_file.specs.declared.fault.AeroFault.{AeroFault}
 use Rattle.aerodrome_file.specs.declared.fault.Key.TheVariants as key
 use Rattle.aerodrome_file.specs.declared.fault.Part.TheVariants as part
-use Rattle.aerodrome_file.specs.Keys.{only}
+use Rattle.aerodrome_file.specs.Keys.{only_in}
 use Rattle.aerodrome_file.specs.Values.{number_in}
 
 -- the version whose keys a file has
@@ -16,7 +16,7 @@ version_of d = 1
 -- the version of a document, whose keys are those of its version
 unfoldable pub version_in : Members → Result ℕ AeroFault
 version_in ms = do
-  _ ← only (version_of (get_member (codes "version") ms)) part.Top ms
+  _ ← only_in (version_of (get_member (codes "version") ms)) part.Top ms
   number_in key.Version 1 3 (get_member (codes "version") ms)
 
 -- keys of later versions are absent

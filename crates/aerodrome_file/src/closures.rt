@@ -25,7 +25,7 @@ fn closure_in(number: u8, table: &Table) -> Result<(u32, u32), AeroFault>
     ensures value { result ≡ closure_in number (table_view table.now) }
     ensures range { IfOk result (λ c. (c.0 ≤ last_second) × (c.1 ≤ last_second + 1)) }
 {
-    only(1, Part::Closure(number), table)?;
+    only(Part::Closure(number), table)?;
     let from = present(Key::From(number), get(table, "from"))?;
     let to = present(Key::To(number), get(table, "to"))?;
     let first = integer_of(Key::From(number), from)?;

@@ -1,7 +1,7 @@
 // The keys that each part of the file has.
 ghost use Rattle.std.specs.Prelude.{◌≡◌, ◌||◌, bytes_eq};
 ghost use Rattle.toml.specs.View.{table_view};
-ghost use Rattle.aerodrome_file.specs.Keys.{is_first_key, is_top_key, is_letter, is_known, only};
+ghost use Rattle.aerodrome_file.specs.Keys.{is_first_key, is_top_key, is_letter, is_known, only, only_in};
 
 use crate::fault::{AeroFault, Part};
 use crate::key_text::KeyText;
@@ -53,9 +53,9 @@ fn is_known(version: u8, part: Part, key: &str) -> bool
 }
 
 // The first key, in byte order, that the part does not have in this version.
-#[tactic(auto, unfolding(crate::specs::Keys::only))]
-pub(crate) fn only(version: u8, part: Part, table: &Table) -> Result<(), AeroFault>
-    ensures { result ≡ only version part (table_view table.now) }
+#[tactic(auto, unfolding(crate::specs::Keys::only_in))]
+pub(crate) fn only_in(version: u8, part: Part, table: &Table) -> Result<(), AeroFault>
+    ensures { result ≡ only_in version part (table_view table.now) }
 {
     let unknown = table
         .iter()
@@ -64,4 +64,11 @@ pub(crate) fn only(version: u8, part: Part, table: &Table) -> Result<(), AeroFau
         Some((key, _)) => Err(AeroFault::UnknownKey(part, KeyText::of(key.as_bytes()))),
         None => Ok(()),
     }
+}
+
+// The same of a part other than the document, whose keys are the same in each version.
+pub(crate) fn only(part: Part, table: &Table) -> Result<(), AeroFault>
+    ensures { result ≡ only part (table_view table.now) }
+{
+    only_in(1, part, table)
 }

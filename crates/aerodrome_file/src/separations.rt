@@ -68,7 +68,7 @@ fn rows_of(leaders: &[Category; CATEGORY_COUNT], table: &Table) -> Result<Rows, 
 fn rows_in(table: &Table) -> Result<PairTable, AeroFault>
     ensures { result ≡ rows_in (table_view table.now) }
 {
-    only(1, Part::Table, table)?;
+    only(Part::Table, table)?;
     match PairTable::new(rows_of(&CATEGORIES, table)?) {
         Ok(table) => Ok(table),
         Err(fault) => Err(AeroFault::Table(fault)),

@@ -115,7 +115,7 @@ pub(crate) fn named_number(
 ) -> Result<(Callsign, i64), AeroFault>
     ensures { result ≡ named_number part name_key number_key word.now (table_view table.now) }
 {
-    only(1, part, table)?;
+    only(part, table)?;
     let callsign = present(name_key, get(table, "callsign"))?;
     let number = present(number_key, get(table, word))?;
     let text = string_of(name_key, callsign)?;

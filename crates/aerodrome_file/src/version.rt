@@ -5,7 +5,7 @@ ghost use Rattle.arrivals.specs.Aerodromes.{IsVersion};
 ghost use Rattle.aerodrome_file.specs.Version.{version_of, version_in, HasKeysOf};
 
 use crate::fault::{AeroFault, Key, Part};
-use crate::keys::only;
+use crate::keys::only_in;
 use crate::values::{get, number_in};
 use toml::{Table, Value};
 
@@ -30,7 +30,7 @@ pub(crate) fn version_in(table: &Table) -> Result<u8, AeroFault>
     ensures range { IfOk result IsVersion }
     ensures keys { IfOk result (λ v. HasKeysOf v (table_view table.now)) }
 {
-    only(version_of(get(table, "version")), Part::Top, table)?;
+    only_in(version_of(get(table, "version")), Part::Top, table)?;
     let version = number_in(Key::Version, 1, 3, get(table, "version"))?;
     Ok(version as u8)
 }

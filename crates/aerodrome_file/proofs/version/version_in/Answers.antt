@@ -10,5 +10,5 @@ returns-clause-keys c =
     c.in_ok-version.ensures.value c.in_ok-version.ensures.range in
     let first : c.version_of.result ≡ c.in_ok-version.version =
     rw (c.version_of.ensures, c.get.ensures, ← c.get-2.ensures) given in
-    let known = c.in_ok-only.ensures in
+    let known = c.in_ok-only_in.ensures in
     keys_of c.in_ok-version.version (table_view c.args.table.now) (rw first at (sym known))

@@ -10,9 +10,9 @@ use Rattle.toml.specs.declared.value.Value.{Value}
 use Rattle.aerodrome_file.specs.declared.fault.AeroFault.{AeroFault}
 use Rattle.aerodrome_file.specs.declared.fault.AeroFault.TheVariants as fault
 use Rattle.aerodrome_file.specs.declared.fault.Part.{Part}
-use Rattle.aerodrome_file.specs.Keys.{is_known, only}
+use Rattle.aerodrome_file.specs.Keys.{is_known, only_in}
 use Rattle.aerodrome_file.specs.KeyText.{key_text}
-use Rattle.aerodrome_file.proofs.keys.only.Goals as goal
+use Rattle.aerodrome_file.proofs.keys.only_in.Goals as goal
 
 abbrev is_unknown : ℕ → Part → String Global × Value → Bool
 is_unknown v p m = not (is_known v p (string_bytes m.0))
@@ -22,8 +22,8 @@ answer p None = Ok tt
 answer p (Some m) = Err (fault.UnknownKey p (key_text (string_bytes m.0)))
 
 decided : (v : ℕ) (p : Part) (ms : List (String Global × Value))
-    → answer p (find (is_unknown v p) ms) ≡ only v p (members_view ms)
-unfolding only
+    → answer p (find (is_unknown v p) ms) ≡ only_in v p (members_view ms)
+unfolding only_in
 decided v p [] = refl
 decided v p (m ∷ ms) = elim (cases_Bool (is_known v p (string_bytes m.0))) [
   | inl known ↦
