@@ -34,7 +34,7 @@ is_known v (part.Closure i) k = bytes_eq k (codes "from") || bytes_eq k (codes "
 is_known v (part.Frozen i) k = bytes_eq k (codes "callsign") || bytes_eq k (codes "second")
 is_known v (part.Passed i) k = bytes_eq k (codes "callsign") || bytes_eq k (codes "count")
 
--- nothing, where each key is one that this part may have in a version; else the first other one, in byte order, is a fault
+-- nothing, where each key is one that this part may have in a version; else the first other, in byte order, is a fault
 unfoldable pub only_in : ℕ → Part → Members → Result (Unit {0}) AeroFault
 only_in v p no_members = Ok (tt {0})
 only_in v p (member k d ms) = if is_known v p k then only_in v p ms else Err (fault.UnknownKey p (key_text k))

@@ -1,4 +1,4 @@
--- A reader of records of one length reads the same where a longer record stands without its fields, and nothing behind it.
+-- A reader of records of one length reads the same where the first longer one stands without its fields, as the last.
 use Rattle.std.proofs.Common.{◌≡◌, ℕ, ◌<◌, Bool, true, false, List, [], ◌∷◌, length, Result, Ok, Err, refl, arith}
 use Rattle.std.proofs.Common.{inl, inr}
 use Rattle.std.specs.Prelude.{◌≢◌, nat_lt}
