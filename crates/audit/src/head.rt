@@ -1,7 +1,7 @@
 // What the first line of a block says.
 ghost use Rattle.std.specs.Prelude.{◌≡◌, ◌≤◌, ◌*◌, ◌++◌, All, OnOk, length, map, sum_by};
 ghost use Rattle.landing_rules.specs.Audit.{is_objective, landing_of, other_objective, other_value};
-ghost use Rattle.cps_base.specs.Limits.{most_flights};
+ghost use Rattle.cps_base.specs.Limits.{greatest_weight, greatest_word, most_flights};
 ghost use Rattle.landing_rules.specs.Rules.{cost, delay, greatest};
 ghost use Rattle.audit.specs.Findings.{Finds, HasSmallWeight};
 
@@ -52,7 +52,7 @@ fn greatest_second(found: &[Found]) -> u32
 fn delay_of(found: &Found) -> u64
     requires { HasSmallWeight found.now }
     ensures value { result ≡ delay (landing_of found.now) }
-    ensures small { result ≤ 429496729500 }
+    ensures small { result ≤ greatest_weight * greatest_word }
 {
     let flight = &found.active.flight;
     u64::from(flight.weight) * u64::from(found.line.second.saturating_sub(flight.eta))

@@ -1,5 +1,5 @@
-ghost use Rattle.std.specs.Prelude.{◌≡◌, ◌≤◌, ◌*◌, length, None, IfSome, MatchOption};
-ghost use Rattle.cps_base.specs.Limits.{greatest_weight};
+ghost use Rattle.std.specs.Prelude.{◌≡◌, ◌≤◌, ◌+◌, ◌*◌, length, None, IfSome, MatchOption};
+ghost use Rattle.cps_base.specs.Limits.{greatest_weight, latest_horizon};
 ghost use Rattle.wake_table.specs.Table.{greatest_separation};
 ghost use Rattle.landing_rules.specs.Problem.{last_frozen};
 ghost use Rattle.landing_rules.specs.Rules.{last_second};
@@ -47,7 +47,7 @@ impl Problem {
     pub fn start(&self, rank: u8) -> u32
         requires { (1 ≤ rank) × (rank ≤ length self.now.flights) }
         ensures value { result ≡ start_at self.now rank }
-        ensures small { result ≤ 180599 }
+        ensures small { result ≤ latest_horizon + greatest_separation }
     {
         let head = self.head();
         match head.last {
@@ -64,7 +64,7 @@ impl Problem {
         requires second { second ≤ last_second }
         requires rank { (1 ≤ rank) × (rank ≤ length self.now.flights) }
         ensures value { result ≡ next_from (ranked self.now) last second rank }
-        ensures small { result ≤ 180599 }
+        ensures small { result ≤ latest_horizon + greatest_separation }
     {
         let start = self.start(rank);
         if last == 0 {
