@@ -1,16 +1,19 @@
 #!/usr/bin/env python3
-"""Runs `rt ci` and tells where its processor time went: times.py [WORD..], at the top of a checkout.
+"""Runs `rt ci` and tells what it took, and where: times.py [WORD..], at the top of a checkout; the words go to `rt ci`.
 
-It runs the loop of loop.py, looks once a second at every prover that the gate has started and prints, behind what `rt ci` prints, a table
-with the processor seconds of each crate's proof, of its tests' proof and of its edits, the longest chain of crates that stand on one
-another, and the whole in minutes and in loops. Nothing else should prove at the same time: what does takes processors, though it is not
-counted."""
+Behind what `rt ci` prints stand the machine's kind and the commit; a table with the processor seconds of each crate's proof, of its tests'
+proof and of its edits, and the longest chain of crates that stand on one another; and the processor time and the wall time of the whole.
+The whole is what the system counted for the gate and for all that it started. The table comes from looks at the provers, one a second,
+and sees neither the compiler nor what the tests and programs take. Nothing else should prove at the same time: what does takes
+processors, though it is not counted.
+
+To compare two commits, run both with `--anew` on one machine within one day, and compare the processor times."""
 import os
+import re
+import resource
 import subprocess
 import sys
 import time
-
-import loop
 
 KINDS = 'proof', 'tests', 'edits'
 TICKS = os.sysconf('SC_CLK_TCK')
@@ -69,28 +72,46 @@ def longest_chain(below, seconds):
     return max(chain(crate) for crate in below)
 
 
+def machine():
+    """The processor's model, how many of them the gate may use, and how many there are."""
+    model = re.search(r'^model name\s*:\s*(.*)$', read('/proc/cpuinfo'), re.M)
+    return f'{model[1] if model else "unknown processor"}, {len(os.sched_getaffinity(0))} of {os.cpu_count()} processors'
+
+
+def commit():
+    """The commit that is checked out, and whether files differ from it."""
+    def git(*words):
+        return subprocess.run(['git', *words], capture_output=True, text=True).stdout.strip()
+
+    changed = git('status', '--porcelain', '--untracked-files=no')
+    return (git('rev-parse', '--short=8', 'HEAD') or 'unknown') + (' with changes' if changed else '')
+
+
 def main(words):
-    turn = loop.seconds()
+    stands = commit()
     begun = time.time()
     gate = subprocess.Popen(['rt', 'ci', *words])
     seen = {}
     while gate.poll() is None:
         sample(seen, gate.pid)
         time.sleep(1)
+    wall = time.time() - begun
+    used = resource.getrusage(resource.RUSAGE_CHILDREN)
     seconds = {}
     for crate, kind, spent in seen.values():
         seconds[crate, kind] = seconds.get((crate, kind), 0) + spent
     below = stands_on()
-    print('\n| crate | proof | tests | edits |\n|---|---|---|---|')
+    print(f'\nMachine: {machine()}\nCommit: {stands}\n')
+    print('| crate | proof | tests | edits |\n|---|---|---|---|')
     for crate in below:
         if any((crate, kind) in seconds for kind in KINDS):
             print(f'| {crate} | ' + ' | '.join('%d' % seconds.get((crate, kind), 0) for kind in KINDS) + ' |')
     sums = [sum(spent for (_, it), spent in seconds.items() if it == kind) for kind in KINDS]
     print('| all | ' + ' | '.join('%d' % it for it in sums) + ' |')
     length, chain = longest_chain(below, seconds)
-    wall = time.time() - begun
-    for what, spent in (f'Longest chain of proofs ({" ".join(chain)})', length), ('Processor time', sum(sums)), ('Wall time', wall):
-        print(f'{what}: {spent / 60:.1f} min, {spent / turn:.0f} loops of {turn:.2f} s')
+    print(f'Longest chain of proofs ({" ".join(chain)}): {length / 60:.1f} min')
+    print(f'Processor time of the whole: {(used.ru_utime + used.ru_stime) / 60:.1f} min')
+    print(f'Wall time of the whole: {wall / 60:.1f} min')
     return gate.returncode
 
 

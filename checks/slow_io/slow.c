@@ -1,5 +1,5 @@
-/* Every other read and write is interrupted, the others move at most MOVE bytes, and of these the one with the number in FAIL,
-   from 1, fails (reads and writes are counted together; 0: none). */
+/* Each read and write moves at most MOVE bytes, and the one with the number in FAIL, from 1, fails (reads and writes are counted
+   together; 0: none): with an odd number it is interrupted. */
 #define _GNU_SOURCE
 #include <dlfcn.h>
 #include <errno.h>
@@ -13,18 +13,14 @@ static long number_in(const char *name) {
 
 /* How many bytes may move now, or -1 with errno where the call fails. */
 static ssize_t moves(size_t size) {
-    static long calls, left = -1, most;
+    static long number, left = -1, most;
     if (left < 0) {
-        left = number_in("FAIL");
+        left = number = number_in("FAIL");
         most = number_in("MOVE");
     }
     if (size == 0) return 0;
-    if (++calls % 2 == 1) {
-        errno = EINTR;
-        return -1;
-    }
     if (left > 0 && --left == 0) {
-        errno = EIO;
+        errno = number % 2 == 1 ? EINTR : EIO;
         return -1;
     }
     return size < (size_t)most ? (ssize_t)size : most;

@@ -1,7 +1,7 @@
 """Short, interrupted and failing reads and writes: slow.py PROGRAM FOLDER WORD.., in the folder whose files the words name.
 
-Where every other read and write is interrupted and the others move one byte, the program must end as it does without. Where
-the one of number N fails, it must end with status 4 and no text, with status 5 and a front of its text, or as without, where
+Where each read and write moves one byte, the program must end as it does without. Where the one of number N fails or is
+interrupted, it must end with status 4 and no text, with status 5 and a front of its text, or as without, where
 only a line on the standard error was cut. Goes on until no number makes a difference, and prints one line. Ends with 1 where an
 answer was wrong, or where nothing failed."""
 import os

@@ -2,7 +2,7 @@
 """Wrong bodies that no contract can refuse, each of which a test must: run.py, anywhere in a checkout.
 
 Beside this file each FILE.edit turns a copy of the sources, in the form of the gate's must-fail edits ('file:', 'old:', 'new:', with the
-crate before the file) and with a line 'test:', the tests of gate_tests that are run on it, unproved. Where one of them fails, the body is
+crate before the file) and with a line 'test:', a crate and its tests that are run on it, unproved. Where one of them fails, the body is
 refused. The unchanged sources are run first and must pass. Takes some minutes; ends with 1 where a body was let through."""
 import shutil
 import subprocess
@@ -31,7 +31,8 @@ def read(edit):
 
 
 def passes(copy, test):
-    ran = subprocess.run(['rt', 'try', '--test', '--', test], cwd=copy / 'crates/gate_tests', capture_output=True, text=True)
+    crate, _, name = test.partition(' ')
+    ran = subprocess.run(['rt', 'try', '--test', '--', name], cwd=copy / 'crates' / crate, capture_output=True, text=True)
     if 'test result: ok.' not in ran.stdout and 'test result: FAILED.' not in ran.stdout:
         sys.exit(f'{test} did not run:\n{(ran.stdout + ran.stderr)[-2000:]}')
     return 'test result: ok.' in ran.stdout

@@ -12,6 +12,7 @@ mod separations;
 mod values;
 mod version;
 
+pub use arrivals::{Aerodrome, FrozenLanding, FrozenList, PassedCount, PassedList};
 pub use fault::{AeroFault, Key, Part};
 pub use key_text::KeyText;
 pub use reading::read_aerodrome;

@@ -3,34 +3,35 @@ ghost use Rattle.std.specs.List.{list_any};
 ghost use Rattle.cps_base.specs.Limits.{most_predecessors};
 
 use cps_base::{Callsign, MOST_PREDECESSORS};
+use smallvec::SmallVec;
+use std::alloc::Global;
 use std::marker::Model;
 
 /// The callsigns of at most four predecessors, kept in place. Contracts see their list.
 #[derive(Drop)]
 pub struct After {
-    names: [Callsign; MOST_PREDECESSORS],
-    len: usize,
+    names: SmallVec<Callsign, MOST_PREDECESSORS>,
 }
 
 impl Model for After {
-    ghost use Rattle.std.specs.Prelude.{◌≡◌, ◌≤◌, ℕ, List, take, length};
+    ghost use Rattle.std.specs.Prelude.{◌≡◌, ◌≤◌, ℕ, List, length};
     ghost use Rattle.cps_base.specs.Limits.{most_predecessors};
 
     ghost Value = { List (List ℕ) };
 
-    ghost view = { λ a. take a.len a.names };
+    ghost view = { λ a. a.names.items };
 
-    ghost invariant = { λ a. (a.len ≤ most_predecessors) × (length a.names ≡ most_predecessors) };
+    ghost invariant = { λ a. (length a.names.items ≤ most_predecessors)
+        × (a.names.capacity ≡ most_predecessors) };
 }
 
 impl After {
-    /// No predecessor. The flight's own callsign fills the places.
-    pub fn new(own: Callsign) -> After
+    /// No predecessor.
+    pub fn new(alloc: Global) -> After
         ensures { result ≡ [] }
     {
         After {
-            names: [own; MOST_PREDECESSORS],
-            len: 0,
+            names: SmallVec::new(alloc),
         }
     }
 
@@ -39,15 +40,14 @@ impl After {
         requires { length self.old < most_predecessors }
         ensures { self.new ≡ self.old ++ name ∷ [] }
     {
-        self.names[self.len] = name;
-        self.len += 1;
+        self.names.push_reserved(name);
     }
 
     /// Whether the callsign is among them.
     pub fn has(&self, name: Callsign) -> bool
         ensures { result ≡ list_any (bytes_eq name) self.now }
     {
-        self.names[..self.len].iter().any(|n| name == *n)
+        self.names.iter().any(|n| name == *n)
     }
 
     /// The callsigns, in their order.
@@ -55,17 +55,15 @@ impl After {
         ensures value { result.now ≡ self.now }
         ensures few { length self.now ≤ most_predecessors }
     {
-        &self.names[..self.len]
+        &self.names
     }
 
     // The same predecessors again.
     pub(crate) fn copy(&self) -> After
         ensures { result ≡ self.now }
     {
-        After {
-            names: self.names,
-            len: self.len,
-        }
+        let names = SmallVec::from_slice(*self.names.allocator(), &self.names).unwrap();
+        After { names }
     }
 
     /// How many there are, at most four.
@@ -73,7 +71,7 @@ impl After {
         ensures value { result ≡ length self.now }
         ensures few { result ≤ most_predecessors }
     {
-        self.len
+        self.names.len()
     }
 
     /// The one at this place, from 0.
@@ -81,7 +79,6 @@ impl After {
         requires { i < length self.now }
         ensures { slice_get self.now i ≡ Some result }
     {
-        let names = &self.names[..self.len];
-        names[i]
+        self.names[i]
     }
 }

@@ -3,7 +3,7 @@ use cps_base::Callsign;
 use landing_windows::WindowSet;
 
 /// What an event may set anew of a flight that waits.
-#[derive(Clone, Copy)]
+#[derive(Drop)]
 pub enum Revision {
     /// Its estimated second, from 0 to 172,799, and its windows.
     Times(u32, WindowSet),

@@ -32,7 +32,7 @@ impl Flight {
             category: self.category,
             eta: self.eta,
             weight: self.weight,
-            windows: self.windows,
+            windows: self.windows.copy(),
             after: self.after.copy(),
         }
     }

@@ -7,6 +7,7 @@ mod event;
 mod flight;
 mod frozen_list;
 mod passed_list;
+mod shared;
 mod shift;
 
 pub use aerodrome::Aerodrome;

@@ -1,4 +1,4 @@
-ghost use Rattle.std.specs.Prelude.{◌≡◌, IfOk};
+ghost use Rattle.std.specs.Prelude.{◌≡◌, ◌<◌, length, IfOk, Some, slice_get};
 
 use cps_base::Callsign;
 use std::alloc::AllocError;
@@ -41,6 +41,21 @@ impl PassedList {
         ensures { result.now ≡ self.now }
     {
         self.entries.as_slice()
+    }
+
+    /// How many there are.
+    pub fn len(&self) -> usize
+        ensures { result ≡ length self.now }
+    {
+        self.entries.len()
+    }
+
+    /// The entry of a place, from 0.
+    pub fn at(&self, i: usize) -> PassedCount
+        requires { i < length self.now }
+        ensures { slice_get self.now i ≡ Some result }
+    {
+        self.entries[i]
     }
 
     // The same list.

@@ -15,4 +15,5 @@ mod text;
 
 pub use auditing::audit;
 pub use finding::Finding;
+pub use plan_file::{Block, BlockLines, PlanFault, PlanText, read_plan};
 pub use text::append_findings;

@@ -1,7 +1,6 @@
 pub mod Again
 pub mod AsRead
 pub mod Fronts
-pub mod Many
 pub mod Steps
 pub mod Text
 pub mod Valid

@@ -13,7 +13,7 @@ use crate::state::CertState;
 use cps_base::{Callsign, GREATEST_VALUE, GREATEST_WORD, MOST_WAITING};
 use landing_windows::LAST_SECOND;
 use std::alloc::{AllocError, Global};
-use texts::{first_part, number_in};
+use texts::{first_part, four_or_more, number_in, three_parts, two_parts};
 
 fn are_all_digits(text: &[u8]) -> bool
     ensures { result ≡ list_all is_digit text.now }
@@ -60,14 +60,7 @@ fn pair_of(text: &[u8]) -> Option<(u32, u32)>
     ensures value { result ≡ pair_in text.now }
     ensures range { IfSome result (λ p. is_pair p ≡ true) }
 {
-    let (second, rest) = first_part(text, b':');
-    let Some(rest) = rest else {
-        return None;
-    };
-    let (cost, more) = first_part(rest, b':');
-    if let Some(_) = more {
-        return None;
-    }
+    let (second, cost) = two_parts(text, b':')?;
     let second = number_in(second, 0, u64::from(LAST_SECOND))?;
     let cost = number_in(cost, 0, GREATEST_WORD)?;
     Some((second as u32, cost as u32))
@@ -104,18 +97,7 @@ fn rise(pairs: &[(u32, u32)]) -> bool
 pub(crate) fn landing_of(line: &[u8]) -> Option<(Callsign, u32)>
     ensures { result ≡ landing_in line.now }
 {
-    let (word, rest) = first_part(line, b' ');
-    let Some(rest) = rest else {
-        return None;
-    };
-    let (callsign, rest) = first_part(rest, b' ');
-    let Some(rest) = rest else {
-        return None;
-    };
-    let (second, more) = first_part(rest, b' ');
-    if let Some(_) = more {
-        return None;
-    }
+    let (word, callsign, second) = three_parts(line, b' ')?;
     if word != b"land".as_slice() {
         return None;
     }
@@ -130,21 +112,13 @@ pub(crate) fn claim_of(line: &[u8]) -> Option<Claim>
     ensures value { result ≡ claim_in line.now }
     ensures range { IfSome result IsClaim }
 {
-    let (word, rest) = first_part(line, b' ');
-    let Some(rest) = rest else {
-        return None;
-    };
-    let (kind, value) = first_part(rest, b' ');
-    let Some(value) = value else {
+    if let Some((word, kind)) = two_parts(line, b' ') {
         if word == b"claim".as_slice() && kind == b"infeasible".as_slice() {
             return Some(Claim::Infeasible);
         }
         return None;
-    };
-    let (value, more) = first_part(value, b' ');
-    if let Some(_) = more {
-        return None;
     }
+    let (word, kind, value) = three_parts(line, b' ')?;
     if !(word == b"claim".as_slice() && kind == b"optimal".as_slice()) {
         return None;
     }
@@ -197,19 +171,9 @@ fn state_from(
 pub(crate) fn state_of(alloc: Global, line: &[u8]) -> Result<Option<CertState>, AllocError>
     ensures { IfOk result (λ o. o ≡ state_in line.now) }
 {
-    let (word, rest) = first_part(line, b' ');
-    let Some(rest) = rest else {
+    let Some((word, stage, pattern, last, pairs)) = four_or_more(line, b' ') else {
         return Ok(None);
     };
-    let (stage, rest) = first_part(rest, b' ');
-    let Some(rest) = rest else {
-        return Ok(None);
-    };
-    let (pattern, rest) = first_part(rest, b' ');
-    let Some(rest) = rest else {
-        return Ok(None);
-    };
-    let (last, pairs) = first_part(rest, b' ');
     if word != b"state".as_slice() {
         return Ok(None);
     }

@@ -1,4 +1,4 @@
-ghost use Rattle.std.specs.Prelude.{◌≡◌, true, Some, None, if◌then◌else◌};
+ghost use Rattle.std.specs.Prelude.{◌≡◌, ◌∷◌, [], true, Some, None, if◌then◌else◌};
 ghost use Rattle.std.specs.Prelude.{nat_eq, refl};
 ghost use Rattle.std.specs.Ordering.{nat_cmp};
 ghost use Rattle.std.specs.Cmp.{partial_equiv_from_equiv};
@@ -73,6 +73,18 @@ impl Callsign {
         ensures callsign { is_callsign self.now ≡ true }
     {
         &self.bytes[..self.len]
+    }
+}
+
+/// The callsign `00`, which fills places where no callsign is.
+impl Default for Callsign {
+    ghost is_default = { λ c. c ≡ 48 ∷ 48 ∷ [] };
+
+    fn default() -> Callsign {
+        Callsign {
+            bytes: [b'0', b'0', 0, 0, 0, 0, 0, 0],
+            len: 2,
+        }
     }
 }
 

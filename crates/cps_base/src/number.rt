@@ -1,4 +1,5 @@
-ghost use Rattle.std.specs.Prelude.{◌≡◌, ◌-◌, ◌^◌, ◌≤◌, IfOk, min, true};
+ghost use Rattle.std.specs.Prelude.{◌≡◌, ℕ, ◌+◌, ◌-◌, ◌*◌, ◌^◌, ◌<◌, ◌≤◌, IfOk, SomeIff, true};
+ghost use Rattle.std.specs.Int.{IsInRange};
 ghost use Rattle.std.specs.List.{list_all};
 ghost use Rattle.std.specs.Char.{is_ascii_digit};
 ghost use Rattle.std.specs.Str.Parse.{digits_value};
@@ -28,15 +29,22 @@ fn is_number(text: &[u8]) -> bool
     text.len() > 0 && (text.len() == 1 || text[0] != b'0') && are_digits(text)
 }
 
-// The value of digits, or the greatest `u128` where that is less.
-fn value_of(digits: &[u8]) -> u128
-    requires { list_all is_ascii_digit digits.now ≡ true }
-    ensures { result ≡ min (digits_value 10 digits.now) (2 ^ 128 - 1) }
+// A value with one more digit behind it, or none where it is above the greatest `u64`.
+fn with_digit(value: Option<u64>, digit: u8) -> Option<u64>
+    requires { IsInRange 48 57 digit }
+    ensures { (n : ℕ) → SomeIff value (n < 2 ^ 64) n
+        → SomeIff result (n * 10 + (digit - 48) < 2 ^ 64) (n * 10 + (digit - 48)) }
 {
-    digits.iter().fold(0, |value: u128, digit| {
-        value
-            .saturating_mul(10)
-            .saturating_add(u128::from(*digit - b'0'))
+    value?.checked_mul(10)?.checked_add(u64::from(digit - b'0'))
+}
+
+// The value of digits, or none where it is above the greatest `u64`.
+fn value_of(digits: &[u8]) -> Option<u64>
+    requires { list_all is_ascii_digit digits.now ≡ true }
+    ensures { SomeIff result (digits_value 10 digits.now < 2 ^ 64) (digits_value 10 digits.now) }
+{
+    digits.iter().fold(Some(0), |value: Option<u64>, digit| {
+        with_digit(value, *digit)
     })
 }
 
@@ -49,12 +57,9 @@ pub fn read_number(text: &[u8], least: u64, most: u64) -> Result<u64, NumberFaul
     if !is_number(text) {
         return Err(NumberFault::NotNumber);
     }
-    let value = value_of(text);
-    if value < u128::from(least) {
-        Err(NumberFault::Below)
-    } else if value > u128::from(most) {
-        Err(NumberFault::Above)
-    } else {
-        Ok(value as u64)
+    match value_of(text) {
+        Some(value) if value < least => Err(NumberFault::Below),
+        Some(value) if value <= most => Ok(value),
+        _ => Err(NumberFault::Above),
     }
 }

@@ -53,26 +53,21 @@ impl<W: Write + Drop> RealSink<W> {
     }
 }
 
-// Writes all of the bytes, or the first of them and fails. A write that takes none of the bytes that are left is a fault,
-// and one that is interrupted is tried again.
+// Writes all of the bytes, or the first of them and fails. A write that takes none of the bytes that are left is a fault.
 fn write_pieces<W: Write>(writer: &mut W, bytes: &[u8]) -> io::Result<()>
     ensures ok { OnOk result (Appends (W.contents writer.old) (W.contents writer.new) bytes.now) }
     ensures part { OnErr result (AppendsFront (W.contents writer.old) (W.contents writer.new)
         bytes.now) }
 {
     let mut rest = bytes;
-    for _ in 0..u64::MAX {
-        if rest.is_empty() {
-            return Ok(());
+    while !rest.is_empty() {
+        let count = writer.write(rest)?;
+        if count == 0 {
+            return Err(io::Error::from(ErrorKind::WriteZero));
         }
-        match writer.write(rest) {
-            Ok(0) => return Err(io::Error::from(ErrorKind::WriteZero)),
-            Ok(count) => rest = &rest[count..],
-            Err(e) if e.kind() == ErrorKind::Interrupted => {}
-            Err(e) => return Err(e),
-        }
+        rest = &rest[count..];
     }
-    Err(io::Error::from(ErrorKind::TimedOut))
+    Ok(())
 }
 
 impl<W: Write + Drop> Sink for RealSink<W> {

@@ -3,7 +3,7 @@ ghost use Rattle.std.specs.Io.{ReadsAtMost};
 ghost use Rattle.std.specs.Io.KnownBytes.{Consumes, IsAtEnd, ReadConsumes};
 ghost use Rattle.std.specs.IoError.{error_kind};
 ghost use Rattle.std.specs.declared.io.ErrorKind.{ErrorKind};
-ghost use Rattle.cps_outside.specs.SourceFaults.{IsOfRead, IsOfReadOrMemory};
+ghost use Rattle.cps_outside.specs.SourceFaults.{IsOfReadOrMemory};
 
 use std::alloc::Global;
 use std::io;
@@ -62,40 +62,19 @@ impl<F: Read> Source for ReaderSource<F> {
 // The most bytes of one read.
 const PIECE: usize = 8192;
 
-// One read, again while it is interrupted.
-fn read_piece<S: Source>(source: &mut S, buffer: &mut [u8]) -> io::Result<usize>
-    ensures bound { ReadsAtMost result buffer.new }
-    ensures ok { IfOk result (λ count. Consumes (S.remaining source.old) (S.remaining source.new)
-        (take count buffer.new)) }
-    ensures end { IfOk result (λ count. count ≡ 0 → 0 < length buffer.old
-        → IsAtEnd (S.remaining source.new)) }
-    ensures retried { IfErr result (λ e. error_kind e ≢ ErrorKind.Interrupted) }
-    ensures failed { IfErr result (λ e. IsOfRead (S.fault source.new) (error_kind e)) }
-{
-    for _turn in 0..u64::MAX {
-        match source.read(buffer) {
-            Ok(count) => return Ok(count),
-            Err(e) if e.kind() == ErrorKind::Interrupted => {}
-            Err(e) => return Err(e),
-        }
-    }
-    Err(io::Error::from(ErrorKind::TimedOut))
-}
-
-/// The bytes up to the end, or where there are more, one more than `most` of them. An error is that of the last read, and no
-/// interrupt, or that memory is short.
+/// The bytes up to the end, or where there are more, one more than `most` of them. An error is that of the last read, an interrupt
+/// as well, or that memory is short.
 pub fn read_pieces<S: Source>(alloc: Global, source: &mut S, most: usize) -> io::Result<Vec<u8>>
     ensures bounded { IfOk result (λ bytes. vec_len bytes ≤ most + 1) }
     ensures content { IfOk result (λ bytes. IfSome (S.remaining source.old)
         (λ all. bytes.items ≡ take (most + 1) all)) }
-    ensures retried { IfErr result (λ e. error_kind e ≢ ErrorKind.Interrupted) }
     ensures failed { IfErr result (λ e. IsOfReadOrMemory (S.fault source.new) (error_kind e)) }
 {
     let mut bytes = Vec::new(alloc);
     let mut piece = [0u8; PIECE];
     while bytes.len() <= most {
         let room = (most - bytes.len()).min(PIECE - 1) + 1;
-        let count = read_piece(source, &mut piece[..room])?;
+        let count = source.read(&mut piece[..room])?;
         if count == 0 {
             break;
         }

@@ -86,8 +86,9 @@ impl Bank {
             return Err(Fail::new("not a flight of the bank"));
         }
         let callsign = Callsign::read(name).ok_or("not a callsign")?;
-        let windows = WindowSet::new(&[(eta, last)])?;
-        let times = OpenTimes::of(*self.waiting.allocator(), &windows, &Closures::new())?;
+        let alloc = *self.waiting.allocator();
+        let windows = WindowSet::new(alloc, &[(eta, last)])?;
+        let times = OpenTimes::of(alloc, &windows, &Closures::new())?;
         self.push(Waiting {
             callsign,
             category,

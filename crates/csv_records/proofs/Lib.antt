@@ -3,3 +3,4 @@ pub mod OneRead
 pub mod Parts
 pub mod Scans
 pub mod Marks
+pub mod Headers

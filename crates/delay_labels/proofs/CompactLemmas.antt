@@ -1,8 +1,7 @@
 -- What is left of a stage and its lists where the windows without a pair are left out.
 use Rattle.std.proofs.lemmas.Grind.{common_steps}
-use Rattle.std.proofs.Common.{arith, ◌≡◌, ℕ, ◌<◌, List, [], ◌∷◌, length, map, Bool, true, false, inl, refl, ap}
-use Rattle.std.specs.Prelude.{ℤ, All, nat_lt, ◌↔◌}
-use Rattle.std.proofs.lemmas.List.Elements.{All-head, All-tail}
+use Rattle.std.proofs.Common.{arith, ◌≡◌, ℕ, ◌<◌, List, [], ◌∷◌, length, map, Bool, true, false, inl, refl, ap, ◌∙◌}
+use Rattle.std.specs.Prelude.{ℤ, ◌↔◌}
 use Rattle.cps_theory.specs.Labels.{InPairs, Pair}
 use Rattle.landing_rules.specs.Problem.{Problem}
 use Rattle.cps_network.specs.Compacted.{kept_where}
@@ -10,9 +9,7 @@ use Rattle.cps_network.specs.Landable.{IsLandable, HasEachLandable}
 use Rattle.cps_network.specs.Lists.{node_at}
 use Rattle.cps_network.specs.shared.KeptPlaces.{one_each_left, each_left, landable_left}
 use Rattle.cps_network.specs.Pairs.{ArePairsOf, AreCosts, HoldsCosts, list_at}
-use Rattle.delay_labels.specs.Parts.{IsPart, lists_of}
 use Rattle.delay_labels.specs.Lists.{has_some, known_of}
-use Rattle.delay_labels.proofs.PartLemmas.{part_has_some}
 
 -- ---- as the lists are stored
 
@@ -23,17 +20,19 @@ map_kept f (b ∷ bs) [] = refl
 map_kept f (true ∷ bs) (x ∷ xs) = ap (λ (l : List _). f x ∷ l) (map_kept f bs xs)
 map_kept f (false ∷ bs) (x ∷ xs) = map_kept f bs xs
 
--- the parts that have a pair are those whose list has one
-pub parts_have : (pairs : List Pair) (parts : List (ℕ × ℕ)) → All (IsPart (length pairs)) parts
-    → map (λ (x : ℕ × ℕ). nat_lt x.0 x.1) parts ≡ map has_some (lists_of pairs parts)
-parts_have pairs [] all = refl
-parts_have pairs (x ∷ parts) all = grind
-    (arith, part_has_some, All-head, All-tail, parts_have pairs parts (All-tail (IsPart (length pairs)) x parts all))
+map_twice : {A B C : Type 0} (f : A → B) (g : B → C) (xs : List A) → map (λ x. g (f x)) xs ≡ map g (map f xs)
+map_twice f g [] = refl
+map_twice f g (x ∷ xs) = ap (λ (l : List _). g (f x) ∷ l) (map_twice f g xs)
 
-pub lists_kept : (pairs : List Pair) (parts : List (ℕ × ℕ)) (bs : List Bool) (after : List (ℕ × ℕ))
-    (lists : List (List Pair)) → after ≡ kept_where bs parts → bs ≡ map has_some (lists_of pairs parts)
-    → lists_of pairs parts ≡ lists → lists_of pairs after ≡ known_of lists lists
-lists_kept pairs parts bs after lists e are is = grind (arith, map_kept)
+module _ {V : Type 0} (pairs_of : V → List Pair) (vs after : List V) (bs : List Bool) (lists : List (List Pair))
+    (view : map pairs_of vs ≡ lists) (answers : bs ≡ map (λ v. has_some (pairs_of v)) vs) where
+  -- those are kept whose list has a pair
+  pub kept_are : bs ≡ map has_some lists
+  kept_are = answers ∙ map_twice pairs_of has_some vs ∙ ap (map has_some) view
+
+  pub lists_kept : after ≡ kept_where bs vs → map pairs_of after ≡ known_of lists lists
+  lists_kept e = ap (map pairs_of) e ∙ map_kept pairs_of bs vs ∙ ap (kept_where bs) view
+      ∙ ap (λ (k : List Bool). kept_where k lists) kept_are
 
 -- ---- which lists have a pair
 

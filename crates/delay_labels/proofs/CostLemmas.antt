@@ -1,10 +1,10 @@
--- How much attained pairs cost at most.
-use Rattle.std.proofs.Common.{ℕ, ◌*◌, ◌≤◌, List, [], ◌∷◌, length, arith, le_trans}
+-- How much attained pairs cost at most, and what is known of the second of one.
+use Rattle.std.proofs.Common.{◌≡◌, ℕ, ◌*◌, ◌≤◌, List, [], ◌∷◌, length, arith, le_trans, refl, sym, ap, subst, ◌∙◌}
 use Rattle.std.proofs.lemmas.Grind.{common_steps}
 use Rattle.std.specs.Prelude.{ℤ}
 use Rattle.cps_base.specs.Limits.{dearest_landing}
 use Rattle.cps_theory.specs.Separation.{Landing}
-use Rattle.cps_theory.specs.LandingTrail.{cost_of, latest_landing, ranks}
+use Rattle.cps_theory.specs.LandingTrail.{cost_of, last_rank, latest_landing, ranks}
 use Rattle.cps_theory.specs.Labels.{Pair}
 use Rattle.cps_theory.specs.LegalPrefix.{Legal}
 use Rattle.cps_theory.specs.Feasible.{next_from}
@@ -16,6 +16,9 @@ use Rattle.landing_rules.specs.Problem.{Problem, Waiting}
 use Rattle.landing_rules.specs.Rules.{last_second}
 use Rattle.cps_problem.specs.WellFormed.{IsWellFormed}
 use Rattle.cps_network.specs.Landable.{Attains}
+use Rattle.cps_network.specs.Nodes.{IsWindowNetwork, latest}
+use Rattle.stage_landings.specs.Reach.{IsLatest}
+use Rattle.stage_landings.specs.shared.LatestLandings.{is_latest}
 
 cost_small_by : (o : Objective) (f : Waiting) (t : ℕ) → f.weight ≤ 100 → t ≤ last_second
     → cost_by o f t ≤ dearest_landing
@@ -44,3 +47,20 @@ module _ (p : Problem) (wf : IsWellFormed p) where
   pub attained_small : (stage : ℕ) (xs : List ℤ) (q : Pair) → Attains p stage xs q → q.0 ≤ last_second
       → q.1 ≤ dearest_landing * stage
   attained_small stage xs q a low = grind (arith, trail_small)
+
+-- ---- the second of an attained pair
+
+latest_rank : (xs : List Landing) → last_rank (ranks xs) ≡ (latest_landing xs).0
+latest_rank [] = refl
+latest_rank (x ∷ xs) = refl
+
+-- it is that of the latest landing of a prefix
+pub attained_latest : (p : Problem) → IsWindowNetwork p → (stage : ℕ) (xs : List ℤ) (q : Pair) → Attains p stage xs q
+    → q.0 ≤ last_second → IsLatest p (latest (stage, xs)) q.0
+attained_latest p network stage xs q a low =
+    let trail = a.landings in
+    let rank : (latest_landing trail).0 ≡ latest (stage, xs) =
+    sym (latest_rank trail) ∙ sym (network.newest_is (ranks trail) a.legal) ∙ ap latest a.at in
+    let second : (latest_landing trail).1 ≡ q.0 = ap (λ (z : Pair). z.0) a.is in
+    subst (λ (r : ℕ). IsLatest p r q.0) rank (subst (IsLatest p (latest_landing trail).0) second
+    (is_latest p trail a.landed (omega (arith, second, low))))

@@ -1,5 +1,5 @@
 pub mod ListLemmas
-pub mod PartLemmas
+pub mod StoredLists
 pub mod CostLemmas
 pub mod PairLemmas
 pub mod CompactLemmas

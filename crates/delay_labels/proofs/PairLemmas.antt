@@ -1,5 +1,5 @@
 -- The pairs of a window of the next stage, from those of the windows that lead to it.
-use Rattle.std.proofs.Common.{rules, ◌≡◌, ℕ, suc, ◌+◌, ◌-◌, ◌<◌, ◌≤◌, ◌⊎◌, inl, inr, List, [], ◌∷◌, ◌++◌, length}
+use Rattle.std.proofs.Common.{rules, ◌≡◌, ℕ, suc, ◌+◌, ◌-◌, ◌*◌, ◌/◌, ◌<◌, ◌≤◌, ◌⊎◌, inl, inr, List, [], length}
 use Rattle.std.proofs.Common.{get_or, Option, Some, None, true, refl, sym, ap, subst, ◌∙◌, arith}
 use Rattle.std.specs.Prelude.{ℤ, pos, ◌+ℤ◌, Contains, All, IsSome, MatchOption}
 use Rattle.std.specs.List.Sorted.{IsPermutation}
@@ -26,19 +26,22 @@ use Rattle.landing_rules.specs.Rules.{last_second}
 use Rattle.cps_problem.specs.WellFormed.{IsWellFormed}
 use Rattle.cps_network.specs.Lists.{node_at}
 use Rattle.cps_network.specs.Nodes.{WindowNode, node_of, permits, land, latest}
-use Rattle.cps_network.specs.Permits.{IsSuccessor}
+use Rattle.cps_network.specs.Permits.{IsNextOf, IsSuccessor}
+use Rattle.cps_network.specs.WindowLaws.{WindowLaws}
 use Rattle.cps_network.specs.shared.LeadingWindows.{Sources, successor_at, place_at, rank_of, leader_at, landable_at}
-use Rattle.cps_network.specs.shared.LeadingWindows.{leader_range, rank_range}
+use Rattle.cps_network.specs.shared.LeadingWindows.{leader_range, rank_range, some_range}
+use Rattle.cps_network.specs.shared.LegalWindows.{landable_valid}
 use Rattle.cps_network.specs.Landable.{Attains}
-use Rattle.cps_network.specs.Pairs.{ArePairsOf, AreCosts, GivesPair, list_at, pair_at, successor}
-use Rattle.delay_labels.specs.Bounds.{beyond_costs, most_before}
-use Rattle.delay_labels.specs.Parts.{IsInDays}
+use Rattle.cps_network.specs.Pairs.{ArePairsOf, AreCosts, GivesPair, HoldsCosts, list_at, pair_at, successor}
+use Rattle.stage_landings.specs.Reach.{IsInReach, IsLatest, MayLead, StageOf}
+use Rattle.delay_labels.specs.Bounds.{IsInDays, IsLeading, beyond_costs, most_before}
 use Rattle.delay_labels.specs.Lists.{IsGivenIn, successors_in}
 use Rattle.delay_labels.specs.Sources.{GivesNone, IsFirstSource}
+use Rattle.delay_labels.specs.StageLists.{IsListOf, IsStageBehind}
 use Rattle.cps_network.specs.shared.PairSteps.{in_at, at_in, next_attained}
 use Rattle.cps_network.specs.shared.PairLists.{all_in, in_permuted, permuted_in}
 use Rattle.delay_labels.proofs.ListLemmas.{given_in_range, range_gives}
-use Rattle.delay_labels.proofs.CostLemmas.{attained_small}
+use Rattle.delay_labels.proofs.CostLemmas.{attained_latest, attained_small}
 
 module _ (p : Problem) (wf : IsWellFormed p) (w stage : ℕ) (before : List (List ℤ)) (v : List ℤ)
     (from to : ℕ) (range : Sources p w stage before v from to) (lists : List (List Pair))
@@ -61,6 +64,20 @@ module _ (p : Problem) (wf : IsWellFormed p) (w stage : ℕ) (before : List (Lis
       let s = attained_small p wf stage (node_at before j) (get_or (list_at lists j) i d)
       (listed_attained j lt (get_or (list_at lists j) i d) has) (days j i d within) in
       omega (arith, s, few)
+
+  -- one landing more may come behind a listed pair of the range
+  pub listed_leading : (j : ℕ) → from ≤ j → j < to → All (IsLeading p l) (list_at lists j)
+  listed_leading j lo hi i d within =
+      let lt : j < length before = omega (arith, hi, range.within) in
+      let o : Pair = get_or (list_at lists j) i d in
+      let has : InPairs o (list_at lists j) = search (rules, at_in, get_or_default) in
+      let lead : latest (stage, node_at before j) ≡ l = search (rules, leader_at) in record {
+        latest =
+            subst (λ (m : ℕ). IsLatest p m o.0) lead
+            (attained_latest p range.laws.network stage (node_at before j) o (listed_attained j lt o has)
+            (days j i d within));
+        cost = listed_small j lt i d within;
+      }
 
   -- the successors of the listed pairs of the range are those of the network
   gives : (j : ℕ) → from ≤ j → j < to → (o q : Pair) → InPairs o (list_at lists j) → successor p l o r ≡ Some q
@@ -218,31 +235,30 @@ module _ (p : Problem) (wf : IsWellFormed p) (w stage : ℕ) (before : List (Lis
 
 -- ---- as the call has it
 
-pub pairs_here : (p : Problem) → IsWellFormed p → (w : ℕ) (before after : ℕ × List (List ℤ)) (v : List ℤ) (from to : ℕ)
-    → Sources p w before.0 before.1 v from to → (lists costs more : List (List Pair)) → AreCosts p before lists
+pub pairs_here : (p : Problem) → IsWellFormed p → (w : ℕ) (before after : ℕ × List (List ℤ)) (i from to : ℕ)
+    → Sources p w before.0 before.1 (node_at after.1 i) from to → (lists : List (List Pair)) → AreCosts p before lists
     → ((i : ℕ) → All IsInDays (list_at lists i)) → (l r : ℕ)
     → pos l ≡ pos before.0 +ℤ offset_at (node_at before.1 from) (w - 1)
-    → pos r ≡ pos (suc before.0) +ℤ offset_at v (w - 1) → after.0 ≡ before.0 + 1 → to ≤ length lists
+    → pos r ≡ pos (suc before.0) +ℤ offset_at (node_at after.1 i) (w - 1) → after.0 ≡ before.0 + 1 → to ≤ length lists
     → (found sorted : List Pair) → found ≡ successors_in p l r lists from to → IsPermutation found sorted
-    → InPairOrder sorted → All IsInDays found → more ≡ costs ++ sweep beyond_costs sorted ∷ []
-    → (pairs : List Pair) × (more ≡ costs ++ pairs ∷ []) × ArePairsOf p after.0 v pairs
-    × ((q : Pair) → InPairs q pairs → (place : ℕ) × (index : ℕ) × GivesPair p before lists v q place index)
-pairs_here p wf w before after v from to range lists costs more are days l r leader_is rank_is
-    number within found sorted is moved up in_days e =
+    → InPairOrder sorted → All IsInDays found → IsListOf p before lists after i (sweep beyond_costs sorted)
+pairs_here p wf w before after i from to range lists are days l r leader_is rank_is
+    number within found sorted is moved up in_days =
+    let v = node_at after.1 i in
     let f : suc before.0 ≡ after.0 = omega (arith, number) in
     let made : (q : Pair) → InPairs q sorted → IsGivenIn p l r lists from to q =
     λ q i. given_in_range p l r lists from to q (subst (InPairs q) is (permuted_in found sorted moved q i)) in
     let all : (q : Pair) → IsGivenIn p l r lists from to q → InPairs q sorted =
     λ q g. in_permuted found sorted moved q
-    (subst (InPairs q) (sym is) (range_gives p l r lists from to q within g)) in (
-      sweep beyond_costs sorted,
-      e,
-      subst (λ (s : ℕ). ArePairsOf p s v (sweep beyond_costs sorted)) f
+    (subst (InPairs q) (sym is) (range_gives p l r lists from to q within g)) in record {
+      pairs_are =
+          subst (λ (s : ℕ). ArePairsOf p s v (sweep beyond_costs sorted)) f
           (swept_pairs p wf w before.0 before.1 v from to range lists are days l r leader_is rank_is sorted up
-          (All-permutation IsInDays found sorted moved in_days) made all),
-      λ q i. given_pair p wf w before.0 before.1 v from to range lists are days l r leader_is rank_is q
-          (made q (sweep_subset beyond_costs sorted q i)),
-    )
+          (All-permutation IsInDays found sorted moved in_days) made all);
+      sources =
+          λ q i. given_pair p wf w before.0 before.1 v from to range lists are days l r leader_is rank_is q
+          (made q (sweep_subset beyond_costs sorted q i));
+    }
 
 -- the window that a pair comes from
 pub given_source : (p : Problem) (before : ℕ × List (List ℤ)) (lists : List (List Pair)) (v : List ℤ)
@@ -260,3 +276,62 @@ module _ {p : Problem} {w stage : ℕ} {before : List (List ℤ)} {v : List ℤ}
   pub rank_within : (r : ℕ) → pos r ≡ pos (suc stage) +ℤ offset_at v (w - 1) → (1 ≤ r) × (r ≤ length p.flights)
   rank_within r is =
       let k = rank_range p w stage before v from to range in grind arith
+
+-- and as ranks in reach of the stage
+module _ {p : Problem} {w stage : ℕ} {before : List (List ℤ)} {v : List ℤ} {from to : ℕ}
+    (range : Sources p w stage before v from to) (number : ℕ) (next : number ≡ stage + 1) where
+  pub may_lead : (l : ℕ) → pos l ≡ pos stage +ℤ offset_at (node_at before from) (w - 1) → MayLead p number l
+  may_lead l is =
+      let some = some_range p w stage before v from to range in
+      let valid = landable_valid p w range.odd range.laws stage (node_at before from)
+      (landable_at p w stage before v from to range from (omega (arith, some, range.within))) in
+      let low = valid.low (w - 1) (omega (arith, range.odd)) in
+      let high = valid.high (w - 1) (omega (arith, range.odd)) in
+      let count = leader_within range l is in
+      let half : w / 2 ≡ p.k = omega (arith, range.odd) in record {
+        to_count = count;
+        late = omega (arith, ints, is, low, half, next);
+        early = omega (arith, ints, is, high, half, next);
+      }
+
+  pub in_reach : (r : ℕ) → pos r ≡ pos (suc stage) +ℤ offset_at v (w - 1) → IsInReach p number r
+  in_reach r is =
+      let s = range.node.2 in
+      let same : s.0 ≡ r = rank_of p w stage before v from to range r is range.node.0
+      ((range.holds range.node.0).0 range.node.1) s in
+      let may = s.1 in record {
+        from_one = omega (arith, same, may.from_one);
+        to_count = omega (arith, same, may.to_count);
+        late = omega (arith, same, may.late, next);
+        early = omega (arith, same, may.early, next);
+      }
+
+-- ---- a whole stage
+
+module _ (p : Problem) (landings : StageOf) (same : landings.problem ≡ p) (w : ℕ) (before : ℕ × List (List ℤ))
+    (lists : List (List Pair)) (stage : ℕ × List (List ℤ)) where
+  -- the landings are those of the problem
+  pub stage_behind : landings.number ≡ stage.0 → IsWellFormed p → w ≡ 2 * p.k + 1 → WindowLaws p w
+      → HoldsCosts p before lists → stage.0 ≡ before.0 + 1 → IsNextOf p before.0 before.1 stage.1
+      → IsStageBehind landings w before lists stage
+  stage_behind at formed width laws held number next = record {
+    at = at;
+    formed = subst IsWellFormed (sym same) formed;
+    width = subst (λ (q : Problem). w ≡ 2 * q.k + 1) (sym same) width;
+    laws = subst (λ (q : Problem). WindowLaws q w) (sym same) laws;
+    held = subst (λ (q : Problem). HoldsCosts q before lists) (sym same) held;
+    number = number;
+    next = subst (λ (q : Problem). IsNextOf q before.0 before.1 stage.1) (sym same) next;
+  }
+
+  -- its lists are the pairs of its windows
+  pub stage_costs : (costs : List (List Pair)) → length costs ≡ length stage.1
+      → ((i : ℕ) → i < length stage.1 → IsListOf landings.problem before lists stage i (list_at costs i))
+      → AreCosts p stage costs × ((i : ℕ) → i < length stage.1 → (q : Pair) → InPairs q (list_at costs i)
+      → (place : ℕ) × (index : ℕ) × GivesPair p before lists (node_at stage.1 i) q place index)
+  stage_costs costs long all =
+      let here : (i : ℕ) → i < length stage.1 → IsListOf p before lists stage i (list_at costs i) =
+      λ i lt. subst (λ (q : Problem). IsListOf q before lists stage i (list_at costs i)) same (all i lt) in (
+        record { one_each = long; pairs = λ i lt. (here i lt).pairs_are },
+        λ i lt. (here i lt).sources,
+      )

@@ -1,7 +1,5 @@
 -- The definitions of this crate.
-pub mod Parts
-pub mod Lists
-pub mod Runs
 pub mod Bounds
-pub mod Followers
+pub mod Lists
 pub mod Sources
+pub mod StageLists

@@ -1,16 +1,13 @@
 //! Lists of pairs of a second and a cost.
 
-ghost use Rattle.std.specs.Prelude.{◌≡◌, ℕ, ◌+◌, ◌^◌, ◌<◌, ◌≤◌, List, [], ◌∷◌, ◌++◌, All, length, map, IfOk, OnOk, OnErr, nat_lt};
+ghost use Rattle.std.specs.Prelude.{◌≡◌, ℕ, ◌<◌, ◌++◌, [], ◌∷◌, All, length, map, IfOk, OnOk, OnErr};
 ghost use Rattle.cps_nodes.specs.Windows.{IsWidth};
-ghost use Rattle.cps_theory.specs.UndominatedPairs.{sweep};
 ghost use Rattle.landing_rules.specs.Problem.{Problem};
 ghost use Rattle.cps_network.specs.Landable.{HasEachLandable};
 ghost use Rattle.cps_network.specs.Pairs.{list_at, pair_at, AreCosts, HoldsCosts};
-ghost use Rattle.delay_labels.specs.Bounds.{beyond_costs};
-ghost use Rattle.delay_labels.specs.Parts.{IsInDays, moved_by};
-ghost use Rattle.delay_labels.specs.Lists.{known_of};
+ghost use Rattle.delay_labels.specs.Bounds.{IsInDays};
+ghost use Rattle.delay_labels.specs.Lists.{has_some, known_of};
 
-use crate::merge::keep_falling;
 use cps_network::Stage;
 use std::alloc::{AllocError, Global};
 use std::marker::Model;
@@ -20,46 +17,42 @@ use std::marker::Model;
 /// the empty list.
 #[derive(Drop)]
 pub struct Costs {
-    pairs: Vec<(u32, u32)>,
-    // Where the list of each window begins and ends among the pairs.
-    parts: Vec<(usize, usize)>,
+    lists: Vec<Vec<(u32, u32)>>,
 }
 
 impl Model for Costs {
-    ghost use Rattle.std.specs.Prelude.{ℕ, List, All, length};
-    ghost use Rattle.delay_labels.specs.Parts.{lists_of, IsInDays, IsPart};
+    ghost use Rattle.std.specs.Prelude.{ℕ, List, All, map};
+    ghost use Rattle.delay_labels.specs.Bounds.{IsInDays};
 
     ghost Value = { List (List (ℕ × ℕ)) };
 
-    ghost view = { λ costs. lists_of costs.pairs.items costs.parts.items };
+    ghost view = { λ costs. map (λ list. list.items) costs.lists.items };
 
-    ghost invariant = { λ costs. All IsInDays costs.pairs.items
-        × All (IsPart (length costs.pairs.items)) costs.parts.items };
+    ghost invariant = { λ costs. All (λ list. All IsInDays list.items) costs.lists.items };
 }
 
-// Puts parts behind others, each so many pairs further on.
-fn put_behind(
-    parts: &mut Vec<(usize, usize)>,
-    behind: &[(usize, usize)],
-    by: usize,
-) -> Result<(), AllocError>
-    requires { All (λ part. (part.0 ≤ part.1) × (by + part.1 < 2 ^ 64)) behind.now }
-    ensures { OnOk result (parts.new.items ≡ parts.old.items ++ map (moved_by by) behind.now) }
+// Whether a list has a pair.
+fn has_pair(list: &Vec<(u32, u32)>) -> bool
+    ensures { result ≡ has_some list.now.items }
 {
-    for part in behind {
-        parts.push((by + part.0, by + part.1))?;
-    }
-    Ok(())
+    !list.is_empty()
 }
 
 impl Costs {
-    // No list, with room for so many lists and so many pairs.
-    pub(crate) fn with_room(alloc: Global, lists: usize, pairs: usize) -> Result<Costs, AllocError>
+    // These lists.
+    pub(crate) fn of(lists: Vec<Vec<(u32, u32)>>) -> Costs
+        requires { All (λ list. All IsInDays list.items) lists.items }
+        ensures { result ≡ map (λ list. list.items) lists.items }
+    {
+        Costs { lists }
+    }
+
+    // No list, with room for so many.
+    pub(crate) fn with_room(alloc: Global, lists: usize) -> Result<Costs, AllocError>
         ensures { IfOk result (λ costs. costs ≡ []) }
     {
-        let pairs = Vec::with_capacity(alloc, pairs)?;
-        let parts = Vec::with_capacity(alloc, lists)?;
-        Ok(Costs { pairs, parts })
+        let lists = Vec::with_capacity(alloc, lists)?;
+        Ok(Costs { lists })
     }
 
     /// The lists of stage 0: one list with the one pair (0, 0), whose second no rule reads as a landing.
@@ -67,8 +60,9 @@ impl Costs {
         ensures { IfOk result (λ costs. costs ≡ ((0, 0) ∷ []) ∷ []) }
     {
         let pairs = vec![in alloc; (0u32, 0u32); 1]?;
-        let parts = vec![in alloc; (0usize, 1usize); 1]?;
-        Ok(Costs { pairs, parts })
+        let mut costs = Costs::with_room(alloc, 1)?;
+        costs.push(pairs)?;
+        Ok(costs)
     }
 
     /// How many lists there are.
@@ -76,7 +70,7 @@ impl Costs {
         ensures value { result ≡ length self.now }
         ensures in_days { (i : ℕ) → All IsInDays (list_at self.now i) }
     {
-        self.parts.len()
+        self.lists.len()
     }
 
     /// How many pairs the list of the window at place i has, counted from 0.
@@ -84,8 +78,7 @@ impl Costs {
         requires { i < length self.now }
         ensures { result ≡ length (list_at self.now i) }
     {
-        let (from, to) = self.parts[i];
-        to - from
+        self.list(i).len()
     }
 
     /// The pair at index j of the list of the window at place i: a second and a cost.
@@ -95,13 +88,7 @@ impl Costs {
         ensures value { result ≡ pair_at (list_at self.now i) j }
         ensures in_days { IsInDays result }
     {
-        let (from, _) = self.parts[i];
-        self.pairs[from + j]
-    }
-
-    // How many pairs are stored: those of all lists, and of lists that were left out.
-    pub(crate) fn stored(&self) -> usize {
-        self.pairs.len()
+        self.list(i)[j]
     }
 
     // The list of the window at place i.
@@ -110,42 +97,16 @@ impl Costs {
         ensures value { result.now ≡ list_at self.now i }
         ensures in_days { All IsInDays result.now }
     {
-        let (from, to) = self.parts[i];
-        &self.pairs[from..to]
+        self.lists[i].as_slice()
     }
 
-    // Adds a list: of pairs in order, those that are cheaper than all before them.
-    pub(crate) fn add_list(&mut self, sorted: &[(u32, u32)]) -> Result<(), AllocError>
-        requires { All IsInDays sorted.now }
-        ensures { OnOk result (self.new ≡ self.old ++ sweep beyond_costs sorted.now ∷ []) }
+    // Puts a list behind the others.
+    pub(crate) fn push(&mut self, list: Vec<(u32, u32)>) -> Result<(), AllocError>
+        requires { All IsInDays list.items }
+        ensures { OnOk result (self.new ≡ self.old ++ list.items ∷ []) }
     {
-        let from = self.pairs.len();
-        keep_falling(sorted, &mut self.pairs)?;
-        self.parts.push((from, self.pairs.len()))?;
+        self.lists.push(list)?;
         Ok(())
-    }
-
-    // With the lists of another behind its own.
-    pub(crate) fn with_lists(self, others: Costs) -> Result<Costs, AllocError>
-        ensures { IfOk result (λ costs. costs ≡ self ++ others) }
-    {
-        if self.parts.is_empty() {
-            return Ok(others);
-        }
-        let Costs {
-            mut pairs,
-            mut parts,
-        } = self;
-        let Costs {
-            pairs: mut more,
-            parts: behind,
-        } = others;
-        let count = pairs.len();
-        pairs.append(&mut more)?;
-        // All pairs stand in one Vec, so that the moved parts have places in it.
-        let _few = pairs.len();
-        put_behind(&mut parts, &behind, count)?;
-        Ok(Costs { pairs, parts })
     }
 
     /// Keeps the windows and the lists at the places whose list is not empty, in order. It wants memory only where a window
@@ -163,10 +124,10 @@ impl Costs {
             → AreCosts p stage.old self.old → HoldsCosts p stage.new self.new) }
     {
         stage.compact(
-            &mut self.parts,
-            |part: &(usize, usize)|
-                ensures { result ≡ nat_lt part.now.0 part.now.1 }
-            { part.0 < part.1 },
+            &mut self.lists,
+            |list: &Vec<(u32, u32)>|
+                ensures { result ≡ has_some list.now.items }
+            { has_pair(list) },
         )?;
         Ok(())
     }

@@ -6,9 +6,9 @@
 
 mod costs;
 mod fill;
-mod follower;
 mod merge;
 mod source;
+mod successor;
 
 pub use costs::Costs;
 pub use fill::{fill_costs, fill_costs_alone};

@@ -1,39 +1,35 @@
 //! The successors of listed pairs, and of pairs in order those that no other is better than.
 
-ghost use Rattle.std.specs.Prelude.{◌≡◌, ℕ, ◌<◌, ◌≤◌, ◌⊎◌, ◌++◌, All, length, IsTrue, OnOk};
+ghost use Rattle.std.specs.Prelude.{◌≡◌, ℕ, ◌<◌, ◌≤◌, ◌⊎◌, ◌++◌, All, length, IsTrue, IfOk, OnOk};
 ghost use Rattle.std.specs.List.Sorted.{IsPermutation};
 ghost use Rattle.cps_theory.specs.UndominatedPairs.{InPairOrder, sweep};
 ghost use Rattle.cps_network.specs.Pairs.{list_at};
-ghost use Rattle.delay_labels.specs.Bounds.{beyond_costs, most_before};
-ghost use Rattle.delay_labels.specs.Followers.{IsFollower, IsLead};
-ghost use Rattle.delay_labels.specs.Parts.{IsInDays};
+ghost use Rattle.stage_landings.specs.Reach.{IsInReach, MayLead};
+ghost use Rattle.delay_labels.specs.Bounds.{IsInDays, IsLeading, beyond_costs};
 ghost use Rattle.delay_labels.specs.Lists.{successors, successors_in};
 
 use crate::costs::Costs;
-use crate::follower::{Follower, Lead};
-use cps_problem::Problem;
-use std::alloc::AllocError;
+use crate::successor::successor_of;
+use stage_landings::StageLandings;
+use std::alloc::{AllocError, Global};
 
-// Adds those of a list of pairs in order that are cheaper than all before them.
-pub(crate) fn keep_falling(
+// Of pairs in order, those that are cheaper than all before them.
+pub(crate) fn falling_of(
+    alloc: Global,
     sorted: &[(u32, u32)],
-    into: &mut Vec<(u32, u32)>,
-) -> Result<(), AllocError>
-    ensures kept { OnOk result (into.new.items ≡ into.old.items ++ sweep beyond_costs sorted.now) }
-
-    // This holds also where memory is refused.
-    ensures in_days { All IsInDays sorted.now → All IsInDays into.old.items
-        → All IsInDays into.new.items }
-    ensures grows { length into.old.items ≤ length into.new.items }
+) -> Result<Vec<(u32, u32)>, AllocError>
+    ensures kept { IfOk result (λ kept. kept.items ≡ sweep beyond_costs sorted.now) }
+    ensures in_days { IfOk result (λ kept. All IsInDays sorted.now → All IsInDays kept.items) }
 {
+    let mut kept = Vec::new(alloc);
     let mut least = u32::MAX;
     for pair in sorted {
         if pair.1 < least {
             least = pair.1;
-            into.push(*pair)?;
+            kept.push(*pair)?;
         }
     }
-    Ok(())
+    Ok(kept)
 }
 
 // Whether a pair may stand before another: it is earlier, or as early and no dearer.
@@ -69,27 +65,23 @@ pub(crate) fn put_in_order(pairs: &mut Vec<(u32, u32)>)
     pairs.sort_unstable();
 }
 
-// Adds the successors of the pairs of a list, by a follower behind a lead.
+// Adds the successors of the pairs of a list, by a rank behind another.
 fn add_successors(
-    problem: &Problem,
-    lead: Lead,
-    follower: &mut Follower,
+    landings: &StageLandings<'_>,
+    last: u8,
+    rank: u8,
     pairs: &[(u32, u32)],
     into: &mut Vec<(u32, u32)>,
 ) -> Result<(), AllocError>
-    requires rank { (1 ≤ follower.old.rank) × (follower.old.rank ≤ length problem.now.flights) }
-    requires follower { IsFollower problem.now follower.old }
-    requires lead { IsLead problem.now lead follower.old.rank }
-    requires in_days { All IsInDays pairs.now }
-    requires costs { All (λ q. q.1 ≤ most_before) pairs.now }
-    ensures successors { OnOk result (into.new.items ≡ into.old.items ++ successors problem.now
-        lead.rank follower.old.rank pairs.now) }
+    requires last { MayLead landings.now.problem landings.now.number last }
+    requires rank { IsInReach landings.now.problem landings.now.number rank }
+    requires pairs { All (IsLeading landings.now.problem last) pairs.now }
+    ensures successors { OnOk result (into.new.items ≡ into.old.items ++ successors
+        landings.now.problem last rank pairs.now) }
     ensures in_days { All IsInDays into.old.items → All IsInDays into.new.items }
-    ensures rank { follower.new.rank ≡ follower.old.rank }
-    ensures follower { IsFollower problem.now follower.new }
 {
     for pair in pairs {
-        match follower.successor(problem, lead, *pair) {
+        match successor_of(landings, last, *pair, rank) {
             Some(next) => into.push(next)?,
             None => {}
         }
@@ -97,29 +89,27 @@ fn add_successors(
     Ok(())
 }
 
-// The successors of the pairs of a range of lists, by a follower behind a lead.
-pub(crate) fn collect_successors(
-    problem: &Problem,
-    lead: Lead,
-    follower: &mut Follower,
+// The successors of the pairs of a range of lists, by a rank behind another.
+pub(crate) fn successors_of(
+    alloc: Global,
+    landings: &StageLandings<'_>,
+    last: u8,
+    rank: u8,
     labels: &Costs,
     range: (usize, usize),
-    into: &mut Vec<(u32, u32)>,
-) -> Result<(), AllocError>
-    requires rank { (1 ≤ follower.old.rank) × (follower.old.rank ≤ length problem.now.flights) }
-    requires follower { IsFollower problem.now follower.old }
-    requires lead { IsLead problem.now lead follower.old.rank }
+) -> Result<Vec<(u32, u32)>, AllocError>
+    requires last { MayLead landings.now.problem landings.now.number last }
+    requires rank { IsInReach landings.now.problem landings.now.number rank }
     requires range { (range.0 ≤ range.1) × (range.1 ≤ length labels.now) }
-    requires costs { (i : ℕ) → range.0 ≤ i → i < range.1
-        → All (λ q. q.1 ≤ most_before) (list_at labels.now i) }
-    ensures successors { OnOk result (into.new.items ≡ successors_in problem.now lead.rank
-        follower.old.rank labels.now range.0 range.1) }
-    ensures in_days { All IsInDays into.new.items }
-    ensures follower { IsFollower problem.now follower.new }
+    requires pairs { (i : ℕ) → range.0 ≤ i → i < range.1
+        → All (IsLeading landings.now.problem last) (list_at labels.now i) }
+    ensures successors { IfOk result (λ found. found.items ≡ successors_in
+        landings.now.problem last rank labels.now range.0 range.1) }
+    ensures in_days { IfOk result (λ found. All IsInDays found.items) }
 {
-    into.clear();
+    let mut found = Vec::new(alloc);
     for i in range.0..range.1 {
-        add_successors(problem, lead, follower, labels.list(i), into)?;
+        add_successors(landings, last, rank, labels.list(i), &mut found)?;
     }
-    Ok(())
+    Ok(found)
 }

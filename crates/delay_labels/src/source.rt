@@ -2,8 +2,7 @@
 
 ghost use Rattle.std.specs.Prelude.{◌≡◌, ℕ, ◌+◌, ◌*◌, ◌<◌, ◌≤◌, ◌⊎◌, All, length, Some, MatchOption, IsTrue, ◌↔◌};
 ghost use Rattle.cps_network.specs.Pairs.{list_at, pair_at, successor, HoldsCosts, GivesPair};
-ghost use Rattle.delay_labels.specs.Bounds.{most_before};
-ghost use Rattle.delay_labels.specs.Parts.{IsInDays};
+ghost use Rattle.delay_labels.specs.Bounds.{IsInDays, most_before};
 ghost use Rattle.delay_labels.specs.Sources.{GivesNone, IsFirstSource};
 
 use crate::costs::Costs;

@@ -43,7 +43,7 @@ use Rattle.plan_file.specs.declared.plan.PlanFault.{PlanFault}
 use Rattle.plan_file.specs.declared.plan.PlanFault.TheVariants as plan
 use Rattle.endings.specs.declared.ending.Answer.{Answer}
 use Rattle.endings.specs.declared.ending.Answer.TheVariants.{Scheduled, Infeasible, Certified, Accepted, Rejected}
-use Rattle.endings.specs.declared.ending.Answer.TheVariants.{Tried, Clean, Broken, Claimed, Drawn}
+use Rattle.endings.specs.declared.ending.Answer.TheVariants.{Tried, Clean, Broken, Claimed}
 use Rattle.endings.specs.declared.ending.FilesFault.{FilesFault}
 use Rattle.endings.specs.declared.ending.FilesFault.TheVariants.{Aerodrome, Flights, Events, Certificate, Trials, Plan}
 use Rattle.endings.specs.declared.ending.FilesFault.TheVariants.{Opening}
@@ -61,7 +61,6 @@ answer_status Tried = 0
 answer_status Clean = 0
 answer_status Broken = 7
 answer_status Claimed = 1
-answer_status Drawn = 0
 
 abbrev pub status_of : Ending → ℕ
 status_of (Answered answer) = answer_status answer

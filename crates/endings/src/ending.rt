@@ -27,8 +27,6 @@ pub enum Answer {
     Broken,
     /// The plan file says that there is no plan.
     Claimed,
-    /// The picture was drawn.
-    Drawn,
 }
 
 /// Why the files are not taken.

@@ -21,7 +21,7 @@ pub fn status(ending: &Ending) -> u8
 {
     match ending {
         Ending::Answered(Answer::Scheduled | Answer::Certified | Answer::Accepted) => 0,
-        Ending::Answered(Answer::Tried | Answer::Clean | Answer::Drawn) => 0,
+        Ending::Answered(Answer::Tried | Answer::Clean) => 0,
         Ending::Answered(Answer::Infeasible | Answer::Claimed) => 1,
         Ending::Answered(Answer::Rejected | Answer::Broken) => 7,
         Ending::Misused => 2,

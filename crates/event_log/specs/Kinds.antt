@@ -1,82 +1,48 @@
--- The kinds of events, column by column from left to right.
-use Rattle.std.specs.Prelude.{ℕ, List, codes, bytes_eq, Result, Ok, Err, if◌then◌else◌}
-use Rattle.cps_base.specs.Answers.{◌>>=◌}
+-- The kinds of events: which columns each of them uses, from left to right. The others must be empty.
+use Rattle.std.specs.Prelude.{ℕ, List, [], ◌∷◌, codes, bytes_eq, Result, Ok, Err, if◌then◌else◌}
+use Rattle.cps_base.specs.Answers.{fault_as, ok_map, ◌>>=◌}
 use Rattle.csv_records.specs.Rows.{Fields}
 use Rattle.arrivals.specs.declared.event.Event.{Event}
 use Rattle.arrivals.specs.declared.event.Event.TheVariants.{Revise, Cancel, Add, Close, Reopen, Clock}
 use Rattle.arrivals.specs.declared.event.Revision.TheVariants.{Times}
+use Rattle.flight_file.specs.Fields.{callsign_at, second_at, windows_at, flight_at}
 use Rattle.event_log.specs.declared.fault.Col.TheVariants.{Callsign, Category, Eta, Weight, Windows, After}
 use Rattle.event_log.specs.declared.fault.LogCause.{LogCause}
 use Rattle.event_log.specs.declared.fault.LogCause.TheVariants.{Kind}
-use Rattle.event_log.specs.Columns.{empty_in, callsign_in, category_in, second_in, weight_in, windows_at, names_at}
-use Rattle.event_log.specs.Columns.{span_at}
+use Rattle.event_log.specs.Columns.{place, in_column, empty_in, span_at}
 
 unfoldable pub estimate_in : Fields → Result Event LogCause
 estimate_in r = do
-  callsign ← callsign_in r
-  no_category ← empty_in Category r
-  eta ← second_in r
-  no_weight ← empty_in Weight r
-  windows ← windows_at r
-  no_after ← empty_in After r
+  callsign ← fault_as in_column (callsign_at r (place Callsign))
+  no_category ← empty_in (Category ∷ []) r
+  eta ← fault_as in_column (second_at r (place Eta))
+  no_weight ← empty_in (Weight ∷ []) r
+  windows ← fault_as in_column (windows_at r (place Windows))
+  no_after ← empty_in (After ∷ []) r
   Ok (Revise callsign (Times eta windows))
 
 unfoldable pub cancel_in : Fields → Result Event LogCause
 cancel_in r = do
-  callsign ← callsign_in r
-  no_category ← empty_in Category r
-  no_eta ← empty_in Eta r
-  no_weight ← empty_in Weight r
-  no_windows ← empty_in Windows r
-  no_after ← empty_in After r
+  callsign ← fault_as in_column (callsign_at r (place Callsign))
+  others ← empty_in (Category ∷ Eta ∷ Weight ∷ Windows ∷ After ∷ []) r
   Ok (Cancel callsign)
 
 unfoldable pub add_in : Fields → Result Event LogCause
-add_in r = do
-  callsign ← callsign_in r
-  category ← category_in r
-  eta ← second_in r
-  weight ← weight_in r
-  windows ← windows_at r
-  after ← names_at callsign r
-  Ok (Add (record {
-    callsign = callsign;
-    category = category;
-    eta = eta;
-    weight = weight;
-    windows =
-        windows;
-    after = after;
-  }))
+add_in r = ok_map Add (fault_as in_column (flight_at r (place Callsign)))
 
-unfoldable pub close_in : Fields → Result Event LogCause
-close_in r = do
-  no_callsign ← empty_in Callsign r
-  no_category ← empty_in Category r
-  no_eta ← empty_in Eta r
-  no_weight ← empty_in Weight r
+-- the span of a closure that is new, or is lifted
+unfoldable pub closed_in : Fields → Result (ℕ × ℕ) LogCause
+closed_in r = do
+  before ← empty_in (Callsign ∷ Category ∷ Eta ∷ Weight ∷ []) r
   span ← span_at r
-  no_after ← empty_in After r
-  Ok (Close span.0 span.1)
-
-unfoldable pub reopen_in : Fields → Result Event LogCause
-reopen_in r = do
-  no_callsign ← empty_in Callsign r
-  no_category ← empty_in Category r
-  no_eta ← empty_in Eta r
-  no_weight ← empty_in Weight r
-  span ← span_at r
-  no_after ← empty_in After r
-  Ok (Reopen span.0 span.1)
+  no_after ← empty_in (After ∷ []) r
+  Ok span
 
 unfoldable pub clock_in : Fields → Result Event LogCause
 clock_in r = do
-  no_callsign ← empty_in Callsign r
-  no_category ← empty_in Category r
-  now ← second_in r
-  no_weight ← empty_in Weight r
-  no_windows ← empty_in Windows r
-  no_after ← empty_in After r
+  before ← empty_in (Callsign ∷ Category ∷ []) r
+  now ← fault_as in_column (second_at r (place Eta))
+  behind ← empty_in (Weight ∷ Windows ∷ After ∷ []) r
   Ok (Clock now)
 
 -- the event of the kind that a text names
@@ -85,7 +51,7 @@ event_by kind r =
     if bytes_eq kind (codes "estimate") then estimate_in r
     else if bytes_eq kind (codes "cancel") then cancel_in r
     else if bytes_eq kind (codes "add") then add_in r
-    else if bytes_eq kind (codes "close") then close_in r
-    else if bytes_eq kind (codes "reopen") then reopen_in r
+    else if bytes_eq kind (codes "close") then ok_map (λ span. Close span.0 span.1) (closed_in r)
+    else if bytes_eq kind (codes "reopen") then ok_map (λ span. Reopen span.0 span.1) (closed_in r)
     else if bytes_eq kind (codes "clock") then clock_in r
     else Err Kind

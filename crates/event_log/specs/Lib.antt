@@ -1,4 +1,3 @@
-pub mod Answers
 pub mod Spans
 pub mod Columns
 pub mod Kinds

@@ -1,6 +1,5 @@
 use cps_base::NumberFault;
-use flight_file::{AfterCause, WindowsCause};
-use std::alloc::{AllocError, AllocFailed};
+use flight_file::{AfterCause, FieldFault, WindowsCause};
 use thiserror::Error;
 
 /// A column behind that of the kind, in the order of the header.
@@ -62,7 +61,8 @@ pub enum LogCause {
 }
 
 /// Why a file is not an event log: its first record that has a cause, and the first cause of that.
-#[derive(Clone, Copy, Debug, PartialEq, Eq)]
+#[derive(Clone, Copy, Debug, PartialEq, Eq, Error)]
+#[error("record {number}: {cause}")]
 pub struct LogFault {
     /// The record's number, the header being 1; with `Memory` it is 0.
     pub number: u32,
@@ -70,50 +70,21 @@ pub struct LogFault {
     pub cause: LogCause,
 }
 
-impl LogFault {
+impl From<FieldFault> for LogCause {
     ghost use Rattle.std.specs.Prelude.{◌≡◌};
-    ghost use Rattle.event_log.specs.Answers.{memory_fault};
-    ghost use Rattle.event_log.specs.Reading.{header_fault};
+    ghost use Rattle.event_log.specs.Columns.{in_column};
 
-    // The file does not begin with its header.
-    pub(crate) fn header() -> LogFault
-        ensures { result ≡ header_fault }
-    {
-        LogFault {
-            number: 1,
-            cause: LogCause::Header,
-        }
-    }
+    ghost from_gives = { λ fault cause. cause ≡ in_column fault };
 
-    // Memory ran out.
-    fn memory() -> LogFault
-        ensures { result ≡ memory_fault }
-    {
-        LogFault {
-            number: 0,
-            cause: LogCause::Memory,
-        }
-    }
-}
-
-impl From<AllocError> for LogFault {
-    ghost use Rattle.std.specs.Prelude.{◌≡◌};
-    ghost use Rattle.event_log.specs.Answers.{memory_fault};
-
-    ghost from_gives = { λ _ e. e ≡ memory_fault };
-
-    fn from(_: AllocError) -> Self {
-        LogFault::memory()
-    }
-}
-
-impl<T: Drop> From<AllocFailed<T>> for LogFault {
-    ghost use Rattle.std.specs.Prelude.{◌≡◌};
-    ghost use Rattle.event_log.specs.Answers.{memory_fault};
-
-    ghost from_gives = { λ _ e. e ≡ memory_fault };
-
-    fn from(_: AllocFailed<T>) -> Self {
-        LogFault::memory()
+    fn from(fault: FieldFault) -> Self {
+        let (col, cause) = match fault {
+            FieldFault::Callsign => (Col::Callsign, FieldCause::Bad),
+            FieldFault::Category => (Col::Category, FieldCause::Bad),
+            FieldFault::Eta(fault) => (Col::Eta, FieldCause::Number(fault)),
+            FieldFault::Weight(fault) => (Col::Weight, FieldCause::Number(fault)),
+            FieldFault::Windows(cause) => (Col::Windows, FieldCause::Windows(cause)),
+            FieldFault::After(cause) => (Col::After, FieldCause::After(cause)),
+        };
+        LogCause::Field(col, cause)
     }
 }

@@ -7,6 +7,7 @@ mod kinds;
 mod reading;
 mod span;
 
+pub use arrivals::Event;
 pub use fault::{Col, FieldCause, LogCause, LogFault};
 pub use reading::read_events;
 pub use span::read_span;

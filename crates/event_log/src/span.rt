@@ -6,7 +6,7 @@ use crate::fault::FieldCause;
 use cps_base::read_number;
 use flight_file::WindowsCause;
 use landing_windows::LAST_SECOND;
-use texts::first_part;
+use texts::two_parts;
 
 // A second of a span.
 fn second_in(text: &[u8], most: u64) -> Result<u32, FieldCause>
@@ -29,14 +29,9 @@ pub fn read_span(text: &[u8]) -> Result<(u32, u32), FieldCause>
     ensures value { result ≡ span_in text.now }
     ensures forward { IfOk result (λ span. (span.0 < span.1) × (span.1 ≤ last_second + 1)) }
 {
-    let (from, rest) = first_part(text, b'-');
-    let Some(rest) = rest else {
+    let Some((from, to)) = two_parts(text, b'-') else {
         return Err(FieldCause::Windows(WindowsCause::Shape(1)));
     };
-    let (to, more) = first_part(rest, b'-');
-    if let Some(_) = more {
-        return Err(FieldCause::Windows(WindowsCause::Shape(1)));
-    }
     let from = second_in(from, u64::from(LAST_SECOND))?;
     let to = second_in(to, u64::from(LAST_SECOND) + 1)?;
     if to <= from {

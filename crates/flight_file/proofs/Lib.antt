@@ -4,4 +4,3 @@ pub mod Printable
 pub mod PrintedParts
 pub mod PrintedFields
 pub mod Printed
-pub mod Wide

@@ -1,7 +1,7 @@
 -- Callsigns that differ, by the test of their bytes and as such; and one more name or flight behind others.
 use Rattle.std.proofs.Common.{rules, ◌≡◌, ◌≢◌, ℕ, ◌<◌, List, length, get_or, true, false, ◌+◌, ◌++◌, ◌∷◌, [], arith}
 use Rattle.std.proofs.Common.{refl, length-append, Result, Ok, Err}
-use Rattle.std.specs.Prelude.{All, bytes_eq}
+use Rattle.std.specs.Prelude.{All, bytes_eq, IfOk}
 use Rattle.std.specs.List.{list_any}
 use Rattle.std.proofs.lemmas.Bool.{cases_Bool}
 use Rattle.std.proofs.lemmas.List.Folds.{list_any_at}
@@ -12,6 +12,7 @@ use Rattle.arrivals.specs.Flights.{AreOthers, IsArrival, AreArrivals}
 use Rattle.cps_base.specs.Limits.{most_flights}
 use Rattle.flight_file.specs.After.{name_in, names_from}
 use Rattle.flight_file.specs.declared.fault.AfterCause.{AfterCause}
+use Rattle.flight_file.specs.declared.fault.FlightCause.{FlightCause}
 use Rattle.flight_file.specs.Reading.{has_callsign}
 use Rattle.arrivals.specs.declared.flight.Flight.{Flight}
 use Rattle.std.proofs.lemmas.Slice.Eq.{bytes_eq-Decides}
@@ -69,3 +70,10 @@ flights_more fs f can here new room = record {
       list_any_at (λ g. bytes_eq g.callsign f.callsign) fs k d below alike in
       absurd (cc));
 }
+
+-- the flight that a record gives joins those before
+pub holds_more : (fs : List Flight) (r : Result Flight FlightCause) → IfOk r IsArrival
+    → IfOk r (λ f. has_callsign fs f.callsign ≡ false)
+    → IfOk r (λ f. AreArrivals fs → length fs < most_flights → AreArrivals (fs ++ f ∷ []))
+holds_more fs (Ok f) here new = λ are room. flights_more fs f are here new room
+holds_more fs (Err e) here new = tt

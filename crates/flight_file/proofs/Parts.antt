@@ -1,21 +1,16 @@
 -- What the parts of a field are, one after the other.
-use Rattle.std.proofs.Common.{◌≡◌, ℕ, ◌+◌, ◌<◌, List, [], ◌∷◌, length, Ok, Err, Result, ◌++◌, append_assoc, arith}
+use Rattle.std.proofs.Common.{◌≡◌, ℕ, ◌+◌, List, [], ◌∷◌, Ok, Err, Result, ◌++◌, append_assoc, arith}
 use Rattle.std.proofs.lemmas.Grind.{common_steps}
 use Rattle.cps_base.specs.Answers.{◌>>=◌}
-use Rattle.flight_file.specs.Windows.{window_by, window_in, windows_from}
+use Rattle.flight_file.specs.Windows.{window_in, windows_from}
 use Rattle.std.specs.Prelude.{IsTrue}
 use Rattle.std.specs.List.{list_all}
 use Rattle.landing_windows.specs.Windows.{is_in_days}
-use Rattle.flight_file.specs.declared.fault.WindowsCause.TheVariants.{Shape}
 
 -- what was read before, and then the rest
 abbrev pub with_front : {X E : Type 0} → List X → Result (List X) E → Result (List X) E
 with_front front (Ok rest) = Ok (front ++ rest)
 with_front front (Err e) = Err e
-
--- three parts or more are no window
-pub too_many : (i : ℕ) (a b : List ℕ) (ps : List (List ℕ)) → 0 < length ps → window_by i (a ∷ b ∷ ps) ≡ Err (Shape i)
-too_many i a b ps h = grind arith
 
 -- one more window, a part that is none, and the end
 front_more : {X E : Type 0} (front : List X) (x : X) (r : Result (List X) E)

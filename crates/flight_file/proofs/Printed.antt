@@ -1,5 +1,5 @@
 -- The plain spelling of flights reads as these flights.
-use Rattle.std.proofs.Common.{◌≡◌, ◌+◌, ◌<◌, ◌≤◌, List, [], ◌∷◌, ◌++◌, true, false, length, Ok, refl, sym, ap}
+use Rattle.std.proofs.Common.{◌≡◌, ◌+◌, ◌<◌, ◌≤◌, List, [], ◌∷◌, ◌++◌, false, length, Ok, refl, sym, ap}
 use Rattle.std.proofs.Common.{◌∙◌, arith, append_assoc, length-append}
 use Rattle.std.specs.Prelude.{map, decimal, nat_le}
 use Rattle.std.proofs.lemmas.List.{append-nil}
@@ -7,12 +7,13 @@ use Rattle.cps_base.specs.Limits.{most_flights}
 use Rattle.csv.specs.Reading.{strip_bom}
 use Rattle.wake_table.specs.Letters.{letter}
 use Rattle.csv_records.specs.Rows.{Fields, records_of}
-use Rattle.csv_records.specs.Values.{values_in, values_by}
+use Rattle.csv_records.specs.Values.{value_in, values_in, values_by}
 use Rattle.csv_records.specs.Plain.{plain_text, IsPlainRow, ArePlainRows}
 use Rattle.csv_records.specs.PlainLaw.{plain_high, records_of-plain}
 use Rattle.arrivals.specs.declared.flight.Flight.{Flight}
-use Rattle.flight_file.specs.Reading.{is_header, has_callsign, flight_by, flight_in, flights_in, flights_of}
-use Rattle.flight_file.specs.Printed.{header, flight_fields, flights_text, names_text, windows_text}
+use Rattle.flight_file.specs.Fields.{flight_at}
+use Rattle.flight_file.specs.Reading.{header, has_callsign, flight_in, flights, flights_of}
+use Rattle.flight_file.specs.Printed.{flight_fields, flights_text, names_text, windows_text}
 use Rattle.arrivals.specs.Flights.{AreArrivals}
 use Rattle.flight_file.specs.Kept.{AreKept}
 use Rattle.flight_file.proofs.Printable.{IsPrintable, ArePrintable, are_printable}
@@ -22,13 +23,13 @@ use Rattle.flight_file.proofs.PrintedFields.{high_callsign}
 
 -- one record
 flight_read : (fs : List Flight) (f : Flight) → IsPrintable f → has_callsign fs f.callsign ≡ false
-    → length fs < most_flights → flight_in fs (flight_fields f) ≡ Ok f
-unfolding flight_in flight_by
+    → length fs < most_flights → value_in flights fs (flight_fields f) ≡ Ok f
+unfolding flight_in flight_at
 flight_read fs f h other room = grind (arith, nat_le, category_read, number_read, windows_text_read, names_text_read)
 
 -- the records behind the header
 rows_read : (fs gs : List Flight) → ArePrintable fs gs → length fs + length gs ≤ most_flights
-    → flights_in fs (map flight_fields gs) ≡ Ok (fs ++ gs)
+    → values_in flights fs (map flight_fields gs) ≡ Ok (fs ++ gs)
 unfolding values_in
 rows_read fs [] h room = ap Ok (sym (append-nil fs))
 rows_read fs (g ∷ gs) h room =
@@ -67,10 +68,6 @@ no_mark : (rows : List Fields) → strip_bom (plain_text (header ∷ rows)) ≡ 
 unfolding strip_bom
 no_mark rows = refl
 
-header_read : is_header header ≡ true
-unfolding is_header
-header_read = refl
-
 -- reading what was printed gives the flights again
 pub read_printed : (fs : List Flight) → AreArrivals fs → AreKept fs → flights_of (flights_text fs) ≡ Ok fs
 unfolding values_by
@@ -79,4 +76,4 @@ read_printed fs can kept =
     let rows = header ∷ map flight_fields fs in
     let read : records_of (plain_text rows) ≡ rows =
     records_of-plain rows (header_plain, rows_plain [] fs h) (no_mark (map flight_fields fs)) in
-    rw (read, header_read) (rows_read [] fs h (omega (arith, can.few)))
+    rw read (rows_read [] fs h (omega (arith, can.few)))

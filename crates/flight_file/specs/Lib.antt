@@ -1,6 +1,6 @@
-pub mod Answers
 pub mod Windows
 pub mod After
+pub mod Fields
 pub mod Reading
 pub mod Kept
 pub mod Printed

@@ -1,9 +1,10 @@
 -- The plain spelling of flights.
-use Rattle.std.specs.Prelude.{ℕ, List, [], ◌∷◌, ◌++◌, ◌==◌, Bool, true, false, length, map, codes, decimal}
+use Rattle.std.specs.Prelude.{ℕ, List, [], ◌∷◌, ◌++◌, ◌==◌, Bool, true, false, length, map, decimal}
 use Rattle.wake_table.specs.Letters.{letter}
 use Rattle.csv_records.specs.Rows.{Fields}
 use Rattle.csv_records.specs.Plain.{plain_text}
 use Rattle.arrivals.specs.declared.flight.Flight.{Flight}
+use Rattle.flight_file.specs.Reading.{header}
 
 -- `first-last`
 abbrev pub window_text : ℕ × ℕ → List ℕ
@@ -23,10 +24,6 @@ windows_text (w ∷ ws) = window_text w ++ mark_text (length ws == 0) ++ windows
 abbrev pub names_text : List (List ℕ) → List ℕ
 names_text [] = []
 names_text (n ∷ ns) = n ++ mark_text (length ns == 0) ++ names_text ns
-
--- the first record
-abbrev pub header : Fields
-header = codes "callsign" ∷ codes "category" ∷ codes "eta" ∷ codes "weight" ∷ codes "windows" ∷ codes "after" ∷ []
 
 -- the six fields of a flight
 abbrev pub flight_fields : Flight → Fields

@@ -7,6 +7,7 @@ ghost use Rattle.flight_file.specs.After.{names_in, name_in, names_from};
 use crate::fault::AfterCause;
 use arrivals::After;
 use cps_base::{Callsign, MOST_PREDECESSORS};
+use std::alloc::Global;
 use texts::{first_part, has_more_parts};
 
 // One more predecessor, part `number`, behind those of the parts before it.
@@ -27,11 +28,11 @@ fn name_in(own: Callsign, number: u8, before: &After, text: &[u8]) -> Result<Cal
 
 // The predecessors that the parts of a text name.
 #[tactic(auto, unfolding(crate::specs::After::names_from))]
-fn names_in_parts(text: &[u8], own: Callsign) -> Result<After, AfterCause>
+fn names_in_parts(alloc: Global, text: &[u8], own: Callsign) -> Result<After, AfterCause>
     requires { length (parts 59 text.now) ≤ most_predecessors }
     ensures { result ≡ names_from own 1 [] (parts 59 text.now) }
 {
-    let mut names = After::new(own);
+    let mut names = After::new(alloc);
     let mut number: u8 = 1;
     let mut rest = Some(text);
     while let Some(text) = rest {
@@ -48,15 +49,15 @@ fn names_in_parts(text: &[u8], own: Callsign) -> Result<After, AfterCause>
 /// none twice. An empty text names none; else each part from the first is tested. It takes no
 /// memory.
 #[tactic(auto, using(crate::proofs::Names::names_given), unfolding(crate::specs::After::names_in))]
-pub fn read_after(text: &[u8], own: Callsign) -> Result<After, AfterCause>
+pub fn read_after(alloc: Global, text: &[u8], own: Callsign) -> Result<After, AfterCause>
     ensures value { result ≡ names_in own text.now }
     ensures others { IfOk result (AreOthers own) }
 {
     if text.is_empty() {
-        return Ok(After::new(own));
+        return Ok(After::new(alloc));
     }
     if has_more_parts(text, b';', MOST_PREDECESSORS) {
         return Err(AfterCause::TooMany);
     }
-    names_in_parts(text, own)
+    names_in_parts(alloc, text, own)
 }

@@ -1,6 +1,5 @@
 use cps_base::NumberFault;
 use landing_windows::WindowFault;
-use std::alloc::{AllocError, AllocFailed};
 use thiserror::Error;
 
 /// Why a text is not the windows of a flight. Parts are numbered from 1.
@@ -25,6 +24,23 @@ pub enum AfterCause {
     Itself(u8),
     /// An earlier part is the same callsign.
     Repeat(u8),
+}
+
+/// The field of a flight that is none.
+#[derive(Clone, Copy, Debug, PartialEq, Eq)]
+pub enum FieldFault {
+    /// No callsign.
+    Callsign,
+    /// No wake category.
+    Category,
+    /// No estimated second.
+    Eta(NumberFault),
+    /// No weight from 1 to 100.
+    Weight(NumberFault),
+    /// No set of windows.
+    Windows(WindowsCause),
+    /// No list of predecessors.
+    After(AfterCause),
 }
 
 /// Why a record is not a flight. The first cause in this order is the one that is told.
@@ -66,7 +82,8 @@ pub enum FlightCause {
 }
 
 /// Why a file is not a flight file: its first record that has a cause, and the first cause of that.
-#[derive(Clone, Copy, Debug, PartialEq, Eq)]
+#[derive(Clone, Copy, Debug, PartialEq, Eq, Error)]
+#[error("record {number}: {cause}")]
 pub struct FlightFault {
     /// The record's number, the header being 1; with `Memory` it is 0.
     pub number: u32,
@@ -74,50 +91,20 @@ pub struct FlightFault {
     pub cause: FlightCause,
 }
 
-impl FlightFault {
+impl From<FieldFault> for FlightCause {
     ghost use Rattle.std.specs.Prelude.{◌≡◌};
-    ghost use Rattle.flight_file.specs.Answers.{memory_fault};
-    ghost use Rattle.flight_file.specs.Reading.{header_fault};
+    ghost use Rattle.flight_file.specs.Reading.{in_field};
 
-    // The file does not begin with its header.
-    pub(crate) fn header() -> FlightFault
-        ensures { result ≡ header_fault }
-    {
-        FlightFault {
-            number: 1,
-            cause: FlightCause::Header,
+    ghost from_gives = { λ fault cause. cause ≡ in_field fault };
+
+    fn from(fault: FieldFault) -> Self {
+        match fault {
+            FieldFault::Callsign => FlightCause::Callsign,
+            FieldFault::Category => FlightCause::Category,
+            FieldFault::Eta(fault) => FlightCause::Eta(fault),
+            FieldFault::Weight(fault) => FlightCause::Weight(fault),
+            FieldFault::Windows(cause) => FlightCause::Windows(cause),
+            FieldFault::After(cause) => FlightCause::After(cause),
         }
-    }
-
-    // Memory ran out.
-    fn memory() -> FlightFault
-        ensures { result ≡ memory_fault }
-    {
-        FlightFault {
-            number: 0,
-            cause: FlightCause::Memory,
-        }
-    }
-}
-
-impl From<AllocError> for FlightFault {
-    ghost use Rattle.std.specs.Prelude.{◌≡◌};
-    ghost use Rattle.flight_file.specs.Answers.{memory_fault};
-
-    ghost from_gives = { λ _ e. e ≡ memory_fault };
-
-    fn from(_: AllocError) -> Self {
-        FlightFault::memory()
-    }
-}
-
-impl<T: Drop> From<AllocFailed<T>> for FlightFault {
-    ghost use Rattle.std.specs.Prelude.{◌≡◌};
-    ghost use Rattle.flight_file.specs.Answers.{memory_fault};
-
-    ghost from_gives = { λ _ e. e ≡ memory_fault };
-
-    fn from(_: AllocFailed<T>) -> Self {
-        FlightFault::memory()
     }
 }

@@ -10,7 +10,8 @@ ghost use Rattle.flight_file.specs.Windows.{second_in, window_in, windows_from, 
 use crate::fault::WindowsCause;
 use cps_base::{MOST_WINDOWS, read_number};
 use landing_windows::{LAST_SECOND, WindowFault, WindowSet};
-use texts::{first_part, has_more_parts};
+use std::alloc::Global;
+use texts::{first_part, has_more_parts, two_parts};
 
 // The second that a text in part `number` is.
 fn second_in(number: u8, text: &[u8]) -> Result<u32, WindowsCause>
@@ -29,14 +30,9 @@ fn window_in(number: u8, text: &[u8]) -> Result<(u32, u32), WindowsCause>
     ensures value { result ≡ window_in number text.now }
     ensures range { IfOk result (λ w. IsTrue (is_in_days w)) }
 {
-    let (first, rest) = first_part(text, b'-');
-    let Some(rest) = rest else {
+    let Some((first, last)) = two_parts(text, b'-') else {
         return Err(WindowsCause::Shape(number));
     };
-    let (last, more) = first_part(rest, b'-');
-    if let Some(_) = more {
-        return Err(WindowsCause::Shape(number));
-    }
     let first = second_in(number, first)?;
     let last = second_in(number, last)?;
     Ok((first, last))
@@ -67,7 +63,7 @@ fn spans_in(text: &[u8]) -> Result<([(u32, u32); MOST_WINDOWS], usize), WindowsC
 /// tested whole, `Shape` and then its two numbers, and last the windows together. It takes no
 /// memory.
 #[tactic(auto, unfolding(crate::specs::Windows::windows_in))]
-pub fn read_windows(text: &[u8]) -> Result<WindowSet, WindowsCause>
+pub fn read_windows(alloc: Global, text: &[u8]) -> Result<WindowSet, WindowsCause>
     ensures { result ≡ windows_in text.now }
 {
     if text.is_empty() {
@@ -77,7 +73,7 @@ pub fn read_windows(text: &[u8]) -> Result<WindowSet, WindowsCause>
         return Err(WindowsCause::Set(WindowFault::TooMany));
     }
     let (spans, count) = spans_in(text)?;
-    match WindowSet::new(&spans[..count]) {
+    match WindowSet::new(alloc, &spans[..count]) {
         Ok(windows) => Ok(windows),
         Err(fault) => Err(WindowsCause::Set(fault)),
     }

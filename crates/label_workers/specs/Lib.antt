@@ -1,3 +1,2 @@
--- The definitions of this crate.
-pub mod Pieces
+-- The lemmas of this crate that crates above cite too.
 pub mod shared

@@ -4,10 +4,6 @@
 
 mod lists;
 mod numbers;
-mod pace;
-mod pieces;
 
 pub use lists::{fill_lists, fill_long_lists};
-pub use numbers::fill_numbers;
-pub use pace::Pace;
-pub use pieces::{PIECE, fill_pieces};
+pub use numbers::{PIECE, fill_numbers};

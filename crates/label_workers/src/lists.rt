@@ -29,23 +29,21 @@ pub fn fill_lists<
     fill_long_lists(rt, alloc, n, 1, gate, f)
 }
 
-/// The same where an item costs less than a thread: a thread makes at least `least` items, where there are so many.
+/// The same where an item may cost less than a thread. One call of a thread makes some items one after another: at least `grain`
+/// of them, and all where there are no more, and an eighth of them where that is more. So `grain` items start no thread.
 pub fn fill_long_lists<
     R: Threads + Sync,
     T: Send + Drop,
     G: Gate + Sync,
     F: Fn(usize) -> Result<T, AllocError> + Sync,
->(rt: &R, alloc: Global, n: usize, least: usize, gate: &G, f: &F) -> Result<Vec<T>, AllocError>
+>(rt: &R, alloc: Global, n: usize, grain: usize, gate: &G, f: &F) -> Result<Vec<T>, AllocError>
     requires few { n < 2 ^ 32 }
     requires callable { (i : ℕ) → i < n → F.pre f.now i }
     ensures len { IfOk result (λ items. vec_len items ≡ n) }
     ensures each { IfOk result (λ items. (i : ℕ) (d : T) → i < n → F.post f.now i
         (Ok (slice_index_or items.items i d))) }
 {
-    let size = n.div_ceil(LANES).max(least).max(1);
-    if n <= size {
-        return lane_from(alloc, 0, n, gate, f);
-    }
+    let size = lane_of(n, grain);
     let lane = move |j: usize| -> Result<Vec<T>, AllocError>
         requires { (j * size < n) × (n < 2 ^ 32) × ((i : ℕ) → i < n → F.pre f.now i) }
         ensures { IfOk result (λ items. (length items.items ≡ min size (n - j * size))
@@ -58,6 +56,14 @@ pub fn fill_long_lists<
     let answers = thread::map_indices(rt, alloc, lane_count(n, size), &lane)?;
     let lanes = all_of(alloc, answers)?;
     joined(alloc, n, lanes)
+}
+
+// How many items a lane has: at least a grain of them, and so many that at most LANES lanes make all.
+fn lane_of(n: usize, grain: usize) -> usize
+    ensures grain { grain ≤ result }
+    ensures some { 0 < result }
+{
+    n.div_ceil(LANES).max(grain).max(1)
 }
 
 // How many lanes of this size there are.

@@ -13,6 +13,8 @@ ghost use Rattle.landing_windows.specs.Windows.{
 };
 
 use cps_base::{MOST_OPEN_SECONDS, MOST_WINDOWS};
+use smallvec::SmallVec;
+use std::alloc::Global;
 use std::marker::Model;
 
 /// The last second of the two days that a schedule may use. Seconds count from 0.
@@ -35,32 +37,22 @@ pub enum WindowFault {
 
 /// The windows of a flight: one to four spans of seconds in order, each with both of its ends, of at most 7,200 seconds
 /// together. Contracts see the list of spans.
-#[derive(Clone, Copy)]
+#[derive(Drop)]
 pub struct WindowSet {
-    spans: [(u32, u32); MOST_WINDOWS],
-    len: usize,
+    spans: SmallVec<(u32, u32), MOST_WINDOWS>,
 }
 
 impl Model for WindowSet {
-    ghost use Rattle.std.specs.Prelude.{◌≡◌, List, ℕ, take, length, Ok, IsTrue};
+    ghost use Rattle.std.specs.Prelude.{◌≡◌, List, ℕ, Ok, IsTrue};
     ghost use Rattle.std.specs.List.{list_all};
-    ghost use Rattle.std.proofs.Common.{sym};
-    ghost use Rattle.cps_base.specs.Limits.{most_windows};
-    ghost use Rattle.cps_base.specs.Padded.{padded};
     ghost use Rattle.landing_windows.specs.Windows.{is_in_days, windows_of};
 
     ghost Value = { List (ℕ × ℕ) };
 
-    ghost view = { λ w. take w.len w.spans };
+    ghost view = { λ w. w.spans.items };
 
-    ghost invariant = { λ w. (w.spans ≡ padded (0, 0) most_windows (take w.len w.spans))
-        × (length (take w.len w.spans) ≡ w.len)
-        × (windows_of (take w.len w.spans) ≡ Ok (take w.len w.spans))
-        × IsTrue (list_all is_in_days (take w.len w.spans)) };
-
-    ghost inverse = { λ spans. record { spans = padded (0, 0) most_windows spans; len = length spans } };
-
-    ghost inverse_ok = { λ w h i. record { spans = sym h.0 i; len = h.1 i } };
+    ghost invariant = { λ w. (windows_of w.spans.items ≡ Ok w.spans.items)
+        × IsTrue (list_all is_in_days w.spans.items) };
 }
 
 // What is wrong with the span of a place, counted from 0, after the one before it.
@@ -104,7 +96,7 @@ fn seconds_in(spans: &[(u32, u32)]) -> u64
 impl WindowSet {
     /// The windows that spans are. Each of the numbers is at most `LAST_SECOND`.
     #[tactic(auto, unfolding(crate::specs::Windows::windows_of))]
-    pub fn new(spans: &[(u32, u32)]) -> Result<WindowSet, WindowFault>
+    pub fn new(alloc: Global, spans: &[(u32, u32)]) -> Result<WindowSet, WindowFault>
         requires { IsTrue (list_all is_in_days spans.now) }
         ensures { result ≡ windows_of spans.now }
     {
@@ -120,10 +112,16 @@ impl WindowSet {
         if seconds_in(spans) > MOST_OPEN_SECONDS {
             return Err(WindowFault::TooLong);
         }
-        let len = spans.len();
-        let mut kept = [(0, 0); MOST_WINDOWS];
-        kept[..len].copy_from_slice(spans);
-        Ok(WindowSet { spans: kept, len })
+        let spans = SmallVec::from_slice(alloc, spans).unwrap();
+        Ok(WindowSet { spans })
+    }
+
+    /// The same windows again. It takes no memory.
+    pub fn copy(&self) -> WindowSet
+        ensures { result ≡ self.now }
+    {
+        let spans = SmallVec::from_slice(*self.spans.allocator(), self.spans()).unwrap();
+        WindowSet { spans }
     }
 
     /// The spans, in order.
@@ -133,6 +131,6 @@ impl WindowSet {
         ensures good { AreGoodWindows self.now }
         ensures in_order { AreInOrder self.now }
     {
-        &self.spans[..self.len]
+        &self.spans
     }
 }

@@ -40,24 +40,6 @@ least_more labels from i least le is = grind (arith, min_cases, slice_index, low
 pub entry_least : (a b : ℕ) → IsEntry a → IsEntry b → IsEntry (min a b)
 entry_least a b x y = grind arith
 
-least_to : (labels : List ℕ) (from i j least next : ℕ) → j ≡ i + 1 → from ≤ i → next ≡ slice_index labels i
-    → IsLeastOf labels from i least → IsLeastOf labels from j (min least next)
-least_to labels from i j least next e le is held = grind (arith, slice_index, least_more)
-
--- the least of up to four
-module _ (labels : List ℕ) (from to a : ℕ) (a_is : a ≡ slice_index labels from) where
-  pub least_two : (b : ℕ) → to ≡ from + 2 → b ≡ slice_index labels (from + 1) → IsLeastOf labels from to (min a b)
-  least_two b e b_is = grind (arith, least_to, least_one)
-
-module _ (labels : List ℕ) (from to a b c : ℕ) (a_is : a ≡ slice_index labels from)
-    (b_is : b ≡ slice_index labels (from + 1)) (c_is : c ≡ slice_index labels (from + 2)) where
-  pub least_three : to ≡ from + 3 → IsLeastOf labels from to (min (min a b) c)
-  least_three e = grind (arith, least_to, least_two)
-
-  pub least_four : (d : ℕ) → to ≡ from + 4 → d ≡ slice_index labels (from + 3)
-      → IsLeastOf labels from to (min (min (min a b) c) d)
-  least_four d e d_is = grind (arith, least_to, least_two)
-
 pub entry_of : (landing : Option ℕ) (label : ℕ) → IsLabelOf landing label → IsEntry label
 entry_of None label of = inr of.is
 entry_of (Some t) label of = inl (omega (arith, of.is, of.in_days))

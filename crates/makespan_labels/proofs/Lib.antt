@@ -1,9 +1,6 @@
 pub mod LabelLemmas
-pub mod LeadLemmas
+pub mod CanLabelLemmas
+pub mod RangeLemmas
+pub mod ReachLemmas
 pub mod ColumnLemmas
-pub mod FollowerLemmas
-pub mod GroupLemmas
-pub mod GroupLeads
-pub mod LinkLemmas
 pub mod WrittenColumns
-pub mod LastRanks

@@ -1,5 +1,6 @@
 -- Two stages one after another, of which the first has its labels.
-use Rattle.std.specs.Prelude.{◌≡◌, ℕ, ℤ, ◌+◌, ◌*◌, List}
+use Rattle.std.specs.Prelude.{◌≡◌, ℕ, ℤ, ◌+◌, ◌*◌, ◌≤◌, List, length}
+use Rattle.cps_base.specs.Limits.{most_waiting}
 use Rattle.landing_rules.specs.Problem.{Problem}
 use Rattle.cps_network.specs.Permits.{IsNextOf}
 use Rattle.cps_network.specs.WindowLaws.{WindowLaws}
@@ -10,6 +11,7 @@ use Rattle.makespan_labels.specs.Labels.{HoldsLabels}
 pub record CanLabel (p : Problem) (width : ℕ) (before : ℕ × List (List ℤ)) (labels : List ℕ)
     (stage : ℕ × List (List ℤ)) : Type 0 where
   pub odd : width ≡ 2 * p.k + 1
+  pub few : length p.flights ≤ most_waiting
   pub laws : WindowLaws p width
   pub held : HoldsLabels p before labels
   pub number : stage.0 ≡ before.0 + 1

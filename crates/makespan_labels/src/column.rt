@@ -8,7 +8,6 @@ ghost use Rattle.makespan_labels.specs.Columns.{IsEntry, is_known, known_of};
 ghost use Rattle.makespan_labels.specs.Labels.{no_label, AreLabels, HoldsLabels};
 
 use cps_network::Stage;
-use label_workers::Pace;
 use std::alloc::{AllocError, Global};
 use std::marker::Model;
 
@@ -19,8 +18,6 @@ pub const NO_LABEL: u32 = u32::MAX;
 #[derive(Drop)]
 pub struct Column {
     pub(crate) entries: Vec<u32>,
-    // How the column of the next stage is to be filled.
-    pub(crate) pace: Pace,
 }
 
 impl Model for Column {
@@ -35,7 +32,6 @@ impl Model for Column {
 }
 
 // As many entries of one label.
-#[inline(never)]
 fn entries_of(alloc: Global, label: u32, n: usize) -> Result<Vec<u32>, AllocError>
     ensures { IfOk result (λ entries. entries.items ≡ replicate n label) }
 {
@@ -50,7 +46,6 @@ impl Column {
     {
         Column {
             entries: Vec::new(alloc),
-            pace: Pace::new(),
         }
     }
 
@@ -59,10 +54,7 @@ impl Column {
         ensures { IfOk result (λ column. column ≡ 0 ∷ []) }
     {
         let entries = entries_of(alloc, 0, 1)?;
-        Ok(Column {
-            entries,
-            pace: Pace::new(),
-        })
+        Ok(Column { entries })
     }
 
     /// Makes it n entries of `NO_LABEL`. After want of memory it is as it was.

@@ -1,147 +1,84 @@
 //! The labels of a stage, from those of the stage before.
 
-ghost use Rattle.std.specs.Prelude.{◌≡◌, ℕ, ◌+◌, ◌*◌, ◌<◌, ◌≤◌, length, slice_index};
+ghost use Rattle.std.specs.Prelude.{◌≡◌, ◌+◌, ◌*◌, ◌<◌, ◌≤◌, List, ℕ, length, IfSome};
 ghost use Rattle.cps_base.specs.Tally.{raised_by};
-ghost use Rattle.cps_nodes.specs.Leads.{Extends};
+ghost use Rattle.cps_nodes.specs.Windows.{IsWidth};
 ghost use Rattle.cps_network.specs.Landable.{HasEachLandable};
 ghost use Rattle.cps_network.specs.Lists.{node_at};
 ghost use Rattle.cps_network.specs.Permits.{IsNextOf};
-ghost use Rattle.landing_joint.specs.RankedProblem.{landing_after};
-ghost use Rattle.landing_rules.specs.Rules.{last_second};
-ghost use Rattle.makespan_labels.specs.Columns.{IsLabelOf};
-ghost use Rattle.makespan_labels.specs.Followers.{AreFollowers, IsFollower};
-ghost use Rattle.makespan_labels.specs.Groups.{IsLead};
-ghost use Rattle.makespan_labels.specs.Ready.{IsReady};
+ghost use Rattle.cps_network.specs.shared.LeadingWindows.{Sources};
+ghost use Rattle.landing_rules.specs.Problem as rules;
+ghost use Rattle.makespan_labels.specs.Columns.{IsEntry, IsLeastOf};
 ghost use Rattle.makespan_labels.specs.Entries.{IsLabelAt};
 ghost use Rattle.makespan_labels.specs.Labellings.{CanLabel};
 ghost use Rattle.makespan_labels.specs.Labels.{AreLabels, HoldsLabels};
 
 use crate::column::{Column, NO_LABEL};
-use crate::follower::{Follower, fill_followers, follower_of};
-use crate::group::{Group, Lead, find_group, turn_to};
-use crate::labelling::Labelling;
 use cps_base::{Ledger, Steps};
-use cps_network::{Stage, last_rank, prefix_laws, run_of};
-use cps_nodes::{Window, window_laws};
+use cps_network::{Links, Stage, last_rank, prefix_laws, sources};
+use cps_nodes::window_laws;
 use cps_outside::Gate;
 use cps_problem::Problem;
-use label_workers::fill_pieces;
+use label_workers::fill_numbers;
+use stage_landings::StageLandings;
 use std::thread::Threads;
 
-// The label of a window in which a rank lands as the first. It stands apart, so that `label_behind` stays short.
-#[cold]
-#[inline(never)]
-fn first_label(problem: &Problem, rank: u8) -> u32
-    requires { (1 ≤ rank) × (rank ≤ length problem.now.flights) }
-    ensures { IsLabelOf (landing_after problem.now 0 0 rank) result }
-{
-    problem.landing_after(0, 0, rank).unwrap_or(NO_LABEL)
-}
-
-// The label of a window in which a follower lands behind a group in whose windows a flight has landed. The separation alone
-// counts: that flight itself waited for the horizon and the last frozen landing.
-#[inline(always)]
-pub(crate) fn label_behind_flight(problem: &Problem, lead: Lead, follower: &mut Follower) -> u32
-    requires in_days { lead.least ≤ last_second }
-    requires rank { (1 ≤ follower.old.rank) × (follower.old.rank ≤ length problem.now.flights) }
-    requires follower { IsFollower problem.now follower.old }
-    ensures label { (leader : ℕ) → 1 ≤ leader → IsLead problem.now leader lead.least lead.category
-        → IsLabelOf (landing_after problem.now leader lead.least follower.old.rank) result }
-    ensures follower { IsFollower problem.now follower.new }
-    ensures rank { follower.new.rank ≡ follower.old.rank }
-{
-    // A separation is at most 600 seconds, so the sum fits.
-    let _at_most = problem.head();
-    let apart = follower.separation_behind(lead.category);
-    follower.label_at(problem, lead.least + apart)
-}
-
-// The label of a window in which a follower lands behind a group.
-#[inline(always)]
-fn label_behind(problem: &Problem, group: &Group, follower: &mut Follower) -> u32
-    requires lead { IsLead problem.now group.now.leader group.now.least group.now.category }
-    requires rank { (1 ≤ follower.old.rank) × (follower.old.rank ≤ length problem.now.flights) }
-    requires follower { IsFollower problem.now follower.old }
-    ensures label { IsLabelOf
-        (landing_after problem.now group.now.leader group.now.least follower.old.rank) result }
-    ensures follower { IsFollower problem.now follower.new }
-    ensures rank { follower.new.rank ≡ follower.old.rank }
-{
-    if group.leader == 0 {
-        return first_label(problem, follower.rank);
-    }
-    let lead = Lead {
-        least: group.least,
-        category: group.category,
-    };
-    label_behind_flight(problem, lead, follower)
-}
-
-// The label of the window at place i of the stage of a number, from the group that leads to it: one landing behind the least.
-#[inline(always)]
-pub(crate) fn label_of<const W: usize>(
-    labelling: &Labelling<W>,
-    number: u8,
+// The half-open range of the windows of the stage before that lead to the window at place i of a stage. The links tell it, and
+// without them it is searched.
+fn range_before<const W: usize>(
+    before: &Stage<W>,
+    stage: &Stage<W>,
+    links: Option<&Links<W>>,
     i: usize,
-    window: &Window<W>,
-    group: &Group,
-    followers: &mut [Follower; 8],
-) -> u32
-    requires can { CanLabel labelling.now.problem.now W labelling.now.before.now
-        labelling.now.labels.now labelling.now.stage.now }
-    requires number { number ≡ labelling.now.stage.now.0 }
-    requires within { i < length labelling.now.stage.now.1 }
-    requires window { window.now ≡ node_at labelling.now.stage.now.1 i }
-    requires group { IsReady labelling.now.problem.now W labelling.now.before.now
-        labelling.now.labels.now group.now }
-    requires leads { Extends (node_at labelling.now.before.now.1 group.now.from)
-        (node_at labelling.now.stage.now.1 i) }
-    requires followers { AreFollowers labelling.now.problem.now number followers.old }
-    ensures label { IsLabelAt labelling.now.problem.now labelling.now.stage.now i result }
-    ensures followers { AreFollowers labelling.now.problem.now number followers.new }
+) -> (usize, usize)
+    requires width { IsWidth W }
+    requires links { IfSome links (λ l. (l.now.origin ≡ before.now.1) × (l.now.target ≡ stage.now.1)) }
+    requires within { i < length stage.now.1 }
+    ensures { (p : rules.Problem) (labels : List ℕ) → CanLabel p W before.now labels stage.now
+        → Sources p W before.now.0 before.now.1 (node_at stage.now.1 i) result.0 result.1 }
 {
-    // At most `MOST_WAITING` flights wait, so the rank fits.
-    let _few = labelling.problem.len();
-    let rank = last_rank(window, number);
-    label_behind(labelling.problem, group, &mut followers[follower_of(rank)])
+    match links {
+        Some(links) => {
+            let range = &links.ranges()[links.places()[i] as usize];
+            (range.0 as usize, range.1 as usize)
+        }
+        None => sources(before, &stage.node(i)),
+    }
 }
 
-// Writes the labels of the windows of a stage from place `start` on, as many as the part has entries. The windows that share
-// a tail are looked up once, and each rank that lands last once.
-pub(crate) fn fill_part<const W: usize>(labelling: &Labelling<W>, start: usize, part: &mut [u32])
-    requires can { CanLabel labelling.now.problem.now W labelling.now.before.now
-        labelling.now.labels.now labelling.now.stage.now }
-    requires within { start + length part.old ≤ length labelling.now.stage.now.1 }
-    ensures { (i : ℕ) → i < length part.old
-        → IsLabelAt labelling.now.problem.now labelling.now.stage.now (start + i)
-        (slice_index part.new i) }
+// The least label at the places of a range that is not empty.
+fn least_of(labels: &Column, from: usize, to: usize) -> u32
+    requires range { (from < to) × (to ≤ length labels.now) }
+    ensures least { IsLeastOf labels.now from to result }
+    ensures range { IsEntry result }
 {
-    let earlier = labelling.before.windows();
-    let windows = labelling.stage.windows();
-    if part.is_empty() {
-        return;
-    }
-    let mut first = Group::new();
-    find_group(&mut first, labelling, earlier, start);
-    let number = labelling.stage.number();
-    let mut groups = [first; 8];
-    let mut followers = [Follower::none(); 8];
-    fill_followers(labelling.problem, number, &mut followers);
-    for i in 0..part.len() {
-        let place = start + i;
-        let window = &windows[place];
-        let run = run_of(window);
-        let leads = earlier[groups[run].from].leads_to(window);
-        turn_to(&mut groups[run], leads, labelling, earlier, place);
-        part[i] = label_of(
-            labelling,
-            number,
-            place,
-            window,
-            &groups[run],
-            &mut followers,
-        );
-    }
+    (from + 1..to).fold(labels.label(from), |least, i| least.min(labels.label(i)))
+}
+
+// The label of the window at place i of a stage, whose landings are at hand: where the last rank of the window lands behind the
+// least label of the windows that lead to it, in all of which one rank landed last.
+fn label<const W: usize>(
+    landings: &StageLandings<'_>,
+    before: &Stage<W>,
+    labels: &Column,
+    stage: &Stage<W>,
+    links: Option<&Links<W>>,
+    i: usize,
+) -> u32
+    requires can { CanLabel landings.now.problem W before.now labels.now stage.now }
+    requires number { landings.now.number ≡ stage.now.0 }
+    requires width { IsWidth W }
+    requires links { IfSome links (λ l. (l.now.origin ≡ before.now.1) × (l.now.target ≡ stage.now.1)) }
+    requires within { i < length stage.now.1 }
+    ensures { IsLabelAt landings.now.problem stage.now i result }
+{
+    let (from, to) = range_before(before, stage, links, i);
+    let least = least_of(labels, from, to);
+    let leader = last_rank(&before.node(from), before.number());
+    let rank = last_rank(&stage.node(i), stage.number());
+    landings
+        .landing_after(leader, least, rank)
+        .unwrap_or(NO_LABEL)
 }
 
 /// Writes the labels of a stage: for each window the least second at which a legal prefix that ends in it can land its last
@@ -168,13 +105,12 @@ pub fn fill_alone<const W: usize>(
     let _near = problem.head();
     prefix_laws::<W>(problem);
     window_laws::<W>();
-    let labelling = Labelling {
-        problem,
-        before,
-        labels,
-        stage,
-    };
-    fill_part(&labelling, 0, into.entries.as_mut_slice());
+    let landings = StageLandings::of(problem, stage.number());
+    let links = stage.links(before);
+    let entries = into.entries.as_mut_slice();
+    for i in 0..entries.len() {
+        entries[i] = label(&landings, before, labels, stage, links, i);
+    }
 }
 
 /// The same as `fill_alone`, by pieces that may run at once, each behind the gate, and it ticks once a window. The ticks are
@@ -202,21 +138,17 @@ pub fn fill<const W: usize, R: Threads + Sync, G: Gate + Sync, L: Ledger>(
     let _near = problem.head();
     prefix_laws::<W>(problem);
     window_laws::<W>();
-    let labelling = Labelling {
-        problem,
-        before,
-        labels,
-        stage,
-    };
-    let piece = move |start: usize, part: &mut [u32]|
-        requires { CanLabel labelling.problem.now W labelling.before.now labelling.labels.now
-            labelling.stage.now × (start + length part.now ≤ length labelling.stage.now.1) }
-        ensures { (i : ℕ) → i < length part.entry.now
-            → IsLabelAt labelling.entry.problem.now labelling.entry.stage.now (start + i)
-            (slice_index part.exit.now i) }
-    { fill_part(&labelling, start, part) };
+    let table = StageLandings::of(problem, stage.number());
+    let landings = &table;
+    let links = stage.links(before);
+    let label_at = move |i: usize| -> u32
+        requires { CanLabel landings.now.problem W before.now labels.now stage.now
+            × (landings.now.number ≡ stage.now.0) × IsWidth W
+            × IfSome links (λ l. (l.now.origin ≡ before.now.1) × (l.now.target ≡ stage.now.1))
+            × (i < length stage.now.1) }
+        ensures { IsLabelAt landings.entry.now.problem stage.entry.now i result }
+    { label(landings, before, labels, stage, links, i) };
     let windows = stage.len();
-    let pace = fill_pieces(rt, into.entries.as_mut_slice(), labels.pace, gate, &piece);
-    into.pace = pace;
+    fill_numbers(rt, into.entries.as_mut_slice(), gate, &label_at);
     steps.tick(windows as u64);
 }

@@ -6,15 +6,9 @@
 #![tactic(auto)]
 
 mod column;
-mod follower;
-mod group;
 mod label;
-mod labelling;
-mod linked;
 mod source;
 
 pub use column::{Column, NO_LABEL};
 pub use label::{fill, fill_alone};
-pub use labelling::Labelling;
-pub use linked::{fill_linked, fill_linked_alone};
 pub use source::source_of;

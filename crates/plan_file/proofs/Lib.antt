@@ -1,4 +1,4 @@
 pub mod BodyLines
-pub mod LongLines
+pub mod Behind
 pub mod Readable
 pub mod ReadsBack

@@ -10,7 +10,7 @@ use crate::plan::PlanFault;
 use cps_base::{Callsign, GREATEST_VALUE, MOST_FLIGHTS};
 use landing_rules::Objective;
 use landing_windows::LAST_SECOND;
-use texts::{first_part, number_in};
+use texts::{four_parts, number_in, two_parts};
 
 // The objective that a word names.
 fn objective_in(word: &[u8]) -> Option<Objective>
@@ -30,14 +30,7 @@ fn objective_in(word: &[u8]) -> Option<Objective>
 pub(crate) fn head_of(line: &[u8]) -> Option<(Objective, u64)>
     ensures { result ≡ head_in line.now }
 {
-    let (word, rest) = first_part(line, b' ');
-    let Some(rest) = rest else {
-        return None;
-    };
-    let (value, more) = first_part(rest, b' ');
-    if let Some(_) = more {
-        return None;
-    }
+    let (word, value) = two_parts(line, b' ')?;
     let objective = objective_in(word)?;
     let value = number_in(value, 0, GREATEST_VALUE)?;
     Some((objective, value))
@@ -75,22 +68,7 @@ fn landing_from(callsign: &[u8], second: &[u8], mark: &[u8]) -> Option<Landing>
 fn landing_of(line: &[u8]) -> Option<Landing>
     ensures { option_map shown_of result ≡ landing_in line.now }
 {
-    let (word, rest) = first_part(line, b' ');
-    let Some(rest) = rest else {
-        return None;
-    };
-    let (callsign, rest) = first_part(rest, b' ');
-    let Some(rest) = rest else {
-        return None;
-    };
-    let (second, rest) = first_part(rest, b' ');
-    let Some(rest) = rest else {
-        return None;
-    };
-    let (mark, more) = first_part(rest, b' ');
-    if let Some(_) = more {
-        return None;
-    }
+    let (word, callsign, second, mark) = four_parts(line, b' ')?;
     if word != b"land".as_slice() {
         return None;
     }

@@ -36,29 +36,3 @@ pub next_hinted : (p : Problem) (hinted : List HintedStage) → AreHints p hinte
     < length hinted → x ≡ hinted_at hinted i → y ≡ hinted_at hinted (i + 1) → IsTrue y.is_whole
     → IsNextOf p x.stage.0 x.stage.1 y.stage.1
 next_hinted p hinted are i x y lt e f whole = rw (e, f) (are i lt (rw f at whole))
-
--- one stage more, which comes after the last of them
-pub one_ahead : (p : Problem) (hinted after : List HintedStage) (last : ℕ) (s : HintedStage) → AreHints p hinted
-    → length hinted ≡ last + 1 → after ≡ hinted ++ s ∷ []
-    → IsNextOf p (hinted_at hinted last).stage.0 (hinted_at hinted last).stage.1 s.stage.1 → AreHints p after
-one_ahead p hinted after last s are long e next = rw e (λ i lt said.
-    let here : i < length hinted = omega (arith, lt, length-append hinted (s ∷ [])) in
-    rw (get_or_append_left hinted (s ∷ []) (without_pairs no_stage) i here) (elim (cases_eq (i + 1) (length hinted)) [
-      | inl same ↦
-          let at : i ≡ last = omega arith in
-          rw (get_or_push hinted s (without_pairs no_stage) (i + 1) (sym same), at) next
-      | inr old ↦
-          let below : i + 1 < length hinted = omega arith in
-          let there = get_or_append_left hinted (s ∷ []) (without_pairs no_stage) (i + 1) below in
-          rw there (are i below (rw there at said))
-    ]))
-
--- the last of them, once it is there
-pub last_ahead : (hinted after : List HintedStage) (s : HintedStage) (place : ℕ) → length hinted ≡ place
-    → after ≡ hinted ++ s ∷ [] → hinted_at after place ≡ s
-last_ahead hinted after s place long e = rw e (get_or_push hinted s (without_pairs no_stage) place long)
-
--- the first of them stays
-pub first_ahead : (hinted after : List HintedStage) (s : HintedStage) → 0 < length hinted
-    → after ≡ hinted ++ s ∷ [] → hinted_at after 0 ≡ hinted_at hinted 0
-first_ahead hinted after s some e = rw e (get_or_append_left hinted (s ∷ []) (without_pairs no_stage) 0 some)

@@ -122,7 +122,6 @@ pub(crate) fn begin_stages<const W: usize>(
             let (stages, earlier) = held.into_begun(alloc, problem)?;
             let hints = Hints {
                 problem: earlier,
-                first: 0,
                 stages: windows,
             };
             Ok(Begun {

@@ -2,10 +2,10 @@
 
 ghost use Rattle.std.specs.Prelude.{◌≡◌, ◌+◌, ◌*◌, ◌<◌, length, map, IfOk, IfSome};
 ghost use Rattle.cps_network.specs.Again.{IsStageAfter};
-ghost use Rattle.replan.specs.Stages.{hinted_at, without_pairs};
+ghost use Rattle.replan.specs.Stages.{without_pairs};
 
 use crate::stages::LabelledStage;
-use cps_network::{Stage, next_stage, next_stage_again};
+use cps_network::{Stage, next_stage_again};
 use cps_problem::Problem;
 use std::alloc::{AllocError, Global};
 use std::marker::Model;
@@ -43,12 +43,10 @@ pub(crate) fn shared<const W: usize>(
     Ok(hinted)
 }
 
-/// Windows that the stages to come are likely to have: those of the stages of a problem, from number `first` on. It is an
-/// earlier problem, or the same one, whose last stages were made ahead. Each is tested before use.
+/// Windows that the stages to come are likely to have: those of the stages of an earlier problem. Each is tested before use.
 #[derive(Drop)]
 pub(crate) struct Hints<const W: usize> {
     pub(crate) problem: Problem,
-    pub(crate) first: usize,
     pub(crate) stages: Vec<HintedStage<W>>,
 }
 
@@ -64,43 +62,6 @@ impl<const W: usize> Model for Hints<W> {
 }
 
 impl<const W: usize> Hints<W> {
-    /// The last stages of a problem, made from the windows of the stage that is as far from the last as the greatest shift
-    /// reaches: those of `stage`, if they are the same there, as mostly in the middle.
-    pub(crate) fn last_of(
-        alloc: Global,
-        problem: &Problem,
-        stage: &Stage<W>,
-    ) -> Result<Hints<W>, AllocError>
-        requires { W ≡ 2 * problem.now.k + 1 }
-        ensures problem { IfOk result (λ hints. hints.problem ≡ problem.now) }
-        ensures begins { IfOk result (λ hints. (hinted_at hints.stages 0).stage.1 ≡ stage.now.1) }
-    {
-        // k is at most 3.
-        let k = problem.head().k;
-        let n = problem.len();
-        let first = n.saturating_sub(k);
-        let mut stages = Vec::with_capacity(alloc, usize::from(k) + 1)?;
-        let begun = stage.copy_as(first)?;
-        stages.push(HintedStage {
-            stage: begun,
-            is_whole: false,
-        })?;
-        for number in first..n {
-            let before = &stages[usize::from(number - first)];
-            let next = next_stage(alloc, &before.stage, problem)?;
-            stages.push(HintedStage {
-                stage: next,
-                is_whole: true,
-            })?;
-        }
-        let problem = problem.copy()?;
-        Ok(Hints {
-            problem,
-            first: usize::from(first),
-            stages,
-        })
-    }
-
     // The stage after a stage of a problem, where it is taken from what the hints have after the stage of this number.
     fn next_at(
         &self,
@@ -112,15 +73,11 @@ impl<const W: usize> Hints<W> {
         requires stage { before.now.0 < length problem.now.flights }
         ensures { IfOk result (λ next. IfSome next (IsStageAfter problem.now before.now)) }
     {
-        if number < self.first {
+        if number >= self.stages.len() || number + 1 == self.stages.len() {
             return Ok(None);
         }
-        let place = number - self.first;
-        if place >= self.stages.len() || place + 1 == self.stages.len() {
-            return Ok(None);
-        }
-        let earlier = &self.stages[place];
-        let after = &self.stages[place + 1];
+        let earlier = &self.stages[number];
+        let after = &self.stages[number + 1];
         if !after.is_whole || earlier.stage.len() != before.len() {
             return Ok(None);
         }

@@ -9,7 +9,7 @@ ghost use Rattle.cps_nodes.specs.Windows.{IsWidth};
 ghost use Rattle.cps_network.specs.Landable.{Attains, HasEachLandable};
 ghost use Rattle.cps_network.specs.Pairs.{AreCosts, GivesPair, list_at, pair_at};
 ghost use Rattle.cps_network.specs.Permits.{IsNextOf};
-ghost use Rattle.makespan_labels.specs.Labels.{no_label, AreLabels, HoldsLabels};
+ghost use Rattle.makespan_labels.specs.Labels.{no_label, AreLabels};
 ghost use Rattle.makespan_labels.specs.LabelPairs.{column_pairs};
 ghost use Rattle.replan.specs.Labels.{AreLandableOf, HoldsPairs, last_pair, worth};
 ghost use Rattle.replan.specs.WindowNodes.{extremes};
@@ -21,9 +21,7 @@ use cps_nodes::Window;
 use cps_outside::Gate;
 use cps_problem::{Objective, Problem};
 use delay_labels::{Costs, fill_costs, fill_costs_alone, source_pair};
-use makespan_labels::{
-    Column, Labelling, NO_LABEL, fill, fill_alone, fill_linked, fill_linked_alone, source_of,
-};
+use makespan_labels::{Column, NO_LABEL, fill, fill_alone, source_of};
 use std::alloc::{AllocError, Global};
 use std::marker::Model;
 use std::thread::Threads;
@@ -52,75 +50,12 @@ impl Model for Labels {
     ghost view = { λ labels. pairs_of labels.kept };
 }
 
-// The column of a stage, from that of the stage before, with links where the stage keeps them. It is filled by pieces, and ticks
-// once for each window.
-fn column_by_pieces<const W: usize, R: Threads + Sync, G: Gate + Sync, L: Ledger>(
-    rt: &R,
-    alloc: Global,
-    labelling: Labelling<W>,
-    gate: &G,
-    steps: &mut Steps<L>,
-) -> Result<Column, AllocError>
-    requires width { W ≡ 2 * labelling.problem.now.k + 1 }
-    requires before { HoldsLabels labelling.problem.now labelling.before.now labelling.labels.now }
-    requires number { labelling.stage.now.0 ≡ labelling.before.now.0 + 1 }
-    requires next { IsNextOf labelling.problem.now labelling.before.now.0 labelling.before.now.1
-        labelling.stage.now.1 }
-    ensures labels { IfOk result (λ column. AreLabels labelling.entry.problem.now
-        labelling.entry.stage.now column) }
-    ensures landable { OnOk result (HasEachLandable labelling.entry.problem.now
-        labelling.entry.stage.now) }
-    ensures steps { OnOk result (L.count steps.new ≡ raised_by
-        (length labelling.entry.stage.now.1) (L.count steps.old)) }
+// A column of as many entries as a stage has windows.
+fn column_for<const W: usize>(alloc: Global, stage: &Stage<W>) -> Result<Column, AllocError>
+    ensures { IfOk result (λ column. length column ≡ length stage.now.1) }
 {
-    let Labelling {
-        problem,
-        before,
-        labels,
-        stage,
-    } = labelling;
     let mut column = Column::new(alloc);
     column.reserve(stage.len())?;
-    if before.number() > 0 {
-        if let Some(links) = stage.links(before) {
-            fill_linked(rt, labelling, links, &mut column, gate, steps);
-            return Ok(column);
-        }
-    }
-    fill(rt, problem, before, labels, stage, &mut column, gate, steps);
-    Ok(column)
-}
-
-// The same on the caller's thread, and it ticks nothing.
-fn column_alone<const W: usize>(
-    alloc: Global,
-    labelling: Labelling<W>,
-) -> Result<Column, AllocError>
-    requires width { W ≡ 2 * labelling.problem.now.k + 1 }
-    requires before { HoldsLabels labelling.problem.now labelling.before.now labelling.labels.now }
-    requires number { labelling.stage.now.0 ≡ labelling.before.now.0 + 1 }
-    requires next { IsNextOf labelling.problem.now labelling.before.now.0 labelling.before.now.1
-        labelling.stage.now.1 }
-    ensures labels { IfOk result (λ column. AreLabels labelling.entry.problem.now
-        labelling.entry.stage.now column) }
-    ensures landable { OnOk result (HasEachLandable labelling.entry.problem.now
-        labelling.entry.stage.now) }
-{
-    let Labelling {
-        problem,
-        before,
-        labels,
-        stage,
-    } = labelling;
-    let mut column = Column::new(alloc);
-    column.reserve(stage.len())?;
-    if before.number() > 0 {
-        if let Some(links) = stage.links(before) {
-            fill_linked_alone(labelling, links, &mut column);
-            return Ok(column);
-        }
-    }
-    fill_alone(problem, before, labels, stage, &mut column);
     Ok(column)
 }
 
@@ -271,19 +206,17 @@ impl Labels {
         let _near = problem.head();
         match &self.kept {
             ByObjective::OfColumn(labels) => {
-                let labelling = Labelling {
+                let mut column = column_for(planning.alloc, stage)?;
+                fill(
+                    planning.rt,
                     problem,
                     before,
                     labels,
                     stage,
-                };
-                let column = column_by_pieces(
-                    planning.rt,
-                    planning.alloc,
-                    labelling,
+                    &mut column,
                     planning.gate,
                     steps,
-                )?;
+                );
                 let left = Labels::left_of_column(column, stage)?;
                 Ok(left)
             }
@@ -322,13 +255,8 @@ impl Labels {
         let _near = problem.head();
         match &self.kept {
             ByObjective::OfColumn(labels) => {
-                let labelling = Labelling {
-                    problem,
-                    before,
-                    labels,
-                    stage,
-                };
-                let column = column_alone(alloc, labelling)?;
+                let mut column = column_for(alloc, stage)?;
+                fill_alone(problem, before, labels, stage, &mut column);
                 let left = Labels::left_of_column(column, stage)?;
                 Ok(left)
             }

@@ -16,4 +16,4 @@ pub use begin::{opening, opening_problem};
 pub use plan_file::{Landing, Plan};
 pub use problem::problem_of;
 pub use sequencer::Sequencer;
-pub use situations::{BeginFault, Refusal};
+pub use situations::{BeginFault, Refusal, Situation};

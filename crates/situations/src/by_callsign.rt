@@ -12,6 +12,7 @@ use arrivals::{Flight, Revision};
 use cps_base::Callsign;
 use indexmap::IndexMap;
 use std::alloc::{AllocError, Global};
+use std::mem;
 
 /// The flights by callsign, in the order of their file. Each waits, and none has passed it.
 pub(crate) fn by_callsign(
@@ -29,19 +30,18 @@ pub(crate) fn by_callsign(
 }
 
 // Sets this anew of the flight. It gives what sets it back.
-fn revise(active: &mut Active, revision: Revision) -> Revision
+fn revise(active: &mut Active, revision: &Revision) -> Revision
     ensures new { active.new ≡ record active.old {
-      flight = revised (revision_of revision) active.old.flight;
+      flight = revised (revision_of revision.now) active.old.flight;
     } }
-    ensures back { revised (revision_of result) (revised (revision_of revision) active.old.flight)
+    ensures back { revised (revision_of result) (revised (revision_of revision.now) active.old.flight)
         ≡ active.old.flight }
 {
     match revision {
         Revision::Times(eta, windows) => {
-            let back = Revision::Times(active.flight.eta, active.flight.windows);
-            active.flight.eta = eta;
-            active.flight.windows = windows;
-            back
+            let earlier = mem::replace(&mut active.flight.eta, *eta);
+            let windows = mem::replace(&mut active.flight.windows, windows.copy());
+            Revision::Times(earlier, windows)
         }
     }
 }
@@ -83,10 +83,10 @@ impl Situation {
     }
 
     /// Sets this anew of the flight of the callsign. It gives what sets it back.
-    pub(crate) fn revise(&mut self, callsign: Callsign, revision: Revision) -> Option<Revision>
+    pub(crate) fn revise(&mut self, callsign: Callsign, revision: &Revision) -> Option<Revision>
         ensures new { self.new ≡ record self.old {
           active = map
-              (revise callsign (revision_of revision)) self.old.active;
+              (revise callsign (revision_of revision.now)) self.old.active;
         } }
         ensures found { is_some result ≡ is_some (find (named callsign) self.old.active) }
         ensures back { IfSome result (λ back. map (revise callsign (revision_of back))

@@ -34,11 +34,11 @@ pub enum Change {
 
 impl Situation {
     // Sets this anew of the flight of the callsign.
-    fn change_flight(&mut self, callsign: Callsign, revision: Revision) -> Change
+    fn change_flight(&mut self, callsign: Callsign, revision: &Revision) -> Change
         requires { is_some (find (named callsign) self.old.active) ≡ true }
         ensures change { IsOf self.old (record self.old {
           active = map
-              (revise callsign (revision_of revision)) self.old.active;
+              (revise callsign (revision_of revision.now)) self.old.active;
         }) result self.new }
     {
         match self.revise(callsign, revision) {
@@ -150,7 +150,7 @@ impl Situation {
     {
         let closures = self.closures;
         match event {
-            Event::Revise(callsign, revision) => Ok(self.change_flight(*callsign, *revision)),
+            Event::Revise(callsign, revision) => Ok(self.change_flight(*callsign, revision)),
             Event::Cancel(callsign) => Ok(self.change_cancel(*callsign)),
             Event::Add(flight) => {
                 self.add(flight)?;
@@ -196,7 +196,7 @@ impl Situation {
     {
         match change {
             Change::Revise(callsign, revision) => {
-                self.revise(callsign, revision);
+                self.revise(callsign, &revision);
             }
             Change::Cancel(place) => self.move_from_last(place),
             Change::Add => self.drop_last(),

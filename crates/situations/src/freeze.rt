@@ -166,11 +166,13 @@ impl Situation {
     fn counts(&self, alloc: Global) -> Result<Vec<(Callsign, u8)>, AllocError>
         ensures { IfOk result (λ counts. counts.items ≡ counts_of self.now.active) }
     {
-        self.flights()
-            .iter()
-            .filter(|active| active.frozen.is_none())
-            .map(count_of)
-            .collect(alloc)
+        let mut counts = Vec::new(alloc);
+        for active in self.flights() {
+            if active.frozen.is_none() {
+                counts.push(count_of(active))?;
+            }
+        }
+        Ok(counts)
     }
 
     // Each flight after a clock event with these seconds shown. For want of memory none changes.

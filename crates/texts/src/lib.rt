@@ -6,5 +6,5 @@ mod cuts;
 mod numbers;
 
 pub use appending::append_all;
-pub use cuts::{first_part, has_more_parts};
+pub use cuts::{first_part, four_or_more, four_parts, has_more_parts, three_parts, two_parts};
 pub use numbers::number_in;

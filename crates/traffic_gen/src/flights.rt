@@ -40,11 +40,11 @@ fn category_at(place: u64) -> Category
 
 // One window of two hours, from the estimated second on.
 #[tactic(auto, using(crate::proofs::Windows::one_window))]
-fn window_from(eta: u32) -> WindowSet
+fn window_from(alloc: Global, eta: u32) -> WindowSet
     requires { eta ≤ 100000 }
     ensures { result ≡ window_from eta }
 {
-    match WindowSet::new(&[(eta, eta + 7199)]) {
+    match WindowSet::new(alloc, &[(eta, eta + 7199)]) {
         Ok(windows) => windows,
         Err(_) => unreachable!(),
     }
@@ -52,7 +52,7 @@ fn window_from(eta: u32) -> WindowSet
 
 // The flight of this number, behind one that is due at second `before`.
 #[tactic(auto, unfolding(crate::specs::Flights::flight))]
-fn flight(number: u8, before: u32, state: u64) -> Flight
+fn flight(alloc: Global, number: u8, before: u32, state: u64) -> Flight
     requires { before ≤ 90000 }
     ensures value { result ≡ flight number before state }
     ensures eta { result.eta ≡ before + 60 + drawn 60 (next state) }
@@ -68,8 +68,8 @@ fn flight(number: u8, before: u32, state: u64) -> Flight
         category: category_at(drawn(CATEGORY_COUNT as u64, lettered)),
         eta,
         weight: 1 + drawn(5, weighed) as u32,
-        windows: window_from(eta),
-        after: After::new(callsign),
+        windows: window_from(alloc, eta),
+        after: After::new(alloc),
     }
 }
 
@@ -83,7 +83,7 @@ pub(crate) fn flights(alloc: Global, seed: u64, n: u8) -> Result<Vec<Flight>, Al
     let mut before = 3600;
     let mut state = seed;
     for made in 0..n {
-        let flight = flight(made + 1, before, state);
+        let flight = flight(alloc, made + 1, before, state);
         before = flight.eta;
         state = next(next(next(state)));
         flights.push(flight)?;

@@ -1,4 +1,3 @@
 -- The trials that a text is, or the first fault of its first record that has one.
-pub mod Answers
 pub mod Trials
 pub mod Reading

@@ -1,10 +1,11 @@
--- The trials of a file, or the first fault of its first record that has one, over the records that `csv` reads.
-use Rattle.std.specs.Prelude.{ℕ, List, Bool, not, ◌==◌, ◌&&◌, nat_le, length, codes, bytes_eq}
-use Rattle.std.specs.Prelude.{Result, Ok, Err, if◌then◌else◌}
+-- The trials of a file, or the first fault of its first record that has one.
+use Rattle.std.specs.Prelude.{ℕ, List, [], ◌∷◌, codes, bytes_eq, Result, Err, if◌then◌else◌}
 use Rattle.cps_base.specs.Limits.{greatest_k}
-use Rattle.cps_base.specs.Answers.{fault_as, ok_map, ◌>>=◌}
-use Rattle.csv_records.specs.Rows.{Fields, field, records_of}
-use Rattle.csv_records.specs.Values.{added, values_in, values_by}
+use Rattle.cps_base.specs.Answers.{fault_as, ok_map}
+use Rattle.csv_records.specs.Rows.{field}
+use Rattle.csv_records.specs.Values.{Form, values_of}
+use Rattle.csv_records.specs.declared.cause.FileCause.{FileCause}
+use Rattle.csv_records.specs.declared.cause.FileCause.TheVariants as file
 use Rattle.cps_base.specs.Number.{number_within}
 use Rattle.event_log.specs.declared.fault.FieldCause.TheVariants as field_cause
 use Rattle.event_log.specs.Spans.{span_in}
@@ -14,10 +15,6 @@ use Rattle.trial_file.specs.declared.trial.Trial.TheVariants.{Shift, Close}
 use Rattle.trial_file.specs.declared.fault.TrialCause.{TrialCause}
 use Rattle.trial_file.specs.declared.fault.TrialCause.TheVariants as cause
 use Rattle.trial_file.specs.declared.fault.TrialFault.{TrialFault}
-
--- exactly the fields `kind,value`
-unfoldable pub is_header : Fields → Bool
-is_header r = (length r == 2 && bytes_eq (field r 0) (codes "kind")) && bytes_eq (field r 1) (codes "value")
 
 -- a number from 0 to 3 is another limit of shift
 abbrev pub shift_in : List ℕ → Result Trial TrialCause
@@ -34,32 +31,23 @@ trial_by kind text =
     else if bytes_eq kind (codes "close") then close_in text
     else Err cause.Kind
 
--- the trial that a record is, behind n trials
-unfoldable pub trial_in : ℕ → Fields → Result Trial TrialCause
-trial_in n r =
-    if not (length r == 2) then Err cause.FieldCount
-    else (trial_by (field r 0) (field r 1) >>= (λ t. if nat_le most_trials n then Err cause.TooMany else Ok t))
+-- a fault that each file of records can have
+abbrev pub in_file : FileCause → TrialCause
+in_file file.Header = cause.Header
+in_file file.FieldCount = cause.FieldCount
+in_file file.TooMany = cause.TooMany
+in_file file.Memory = cause.Memory
 
--- a fault of the record of a number
-abbrev pub fault_at : ℕ → TrialCause → TrialFault
-fault_at n c = record { number = n; cause = c }
-
--- the first record is not the header
-abbrev pub header_fault : TrialFault
-header_fault = fault_at 1 cause.Header
-
--- the trials before a record, and that of the record
-abbrev pub and_in : List Trial → Fields → Result (List Trial) TrialFault
-and_in before r = added fault_at before (trial_in (length before) r)
-
--- the trials of the records behind the header, behind the trials before them
-abbrev pub trials_in : List Trial → List Fields → Result (List Trial) TrialFault
-trials_in = values_in and_in
-
--- the trials of all records
-abbrev pub trials_by : List Fields → Result (List Trial) TrialFault
-trials_by = values_by and_in is_header header_fault
+-- the trial file
+abbrev pub trials : Form Trial TrialCause TrialFault
+trials = record {
+  header = codes "kind" ∷ codes "value" ∷ [];
+  value = λ before r. trial_by (field r 0) (field r 1);
+  most = most_trials;
+  cause = in_file;
+  fault = λ n c. record { number = n; cause = c };
+}
 
 -- the trials of a file
 abbrev pub trials_of : List ℕ → Result (List Trial) TrialFault
-trials_of bytes = trials_by (records_of bytes)
+trials_of = values_of trials

@@ -13,3 +13,4 @@ pub use laws::{
 pub use outcome::{Outcome, TrialRefusal};
 pub use running::run_trials;
 pub use text::append_outcomes;
+pub use trial_file::{Trial, TrialCause, TrialFault, read_trials};

@@ -20,7 +20,8 @@ pub(crate) fn needed_text<'a>(table: &'a Table, key: &str) -> Result<&'a str> {
     }
 }
 
-fn number_of(key: &str, value: &Value) -> Result<u32> {
+/// A value that must be a number.
+pub(crate) fn number_of(key: &str, value: &Value) -> Result<u32> {
     let Some(number) = value.as_integer() else {
         bail!("{key} is no number");
     };

@@ -1,5 +1,5 @@
 // The files of a case.
-use crate::fields::{items_at, needed_number, needed_text};
+use crate::fields::{items_at, needed_number, needed_text, number_of};
 use anyhow::{Result, bail};
 use std::alloc::Global;
 use toml::{Table, Value};
@@ -23,12 +23,24 @@ fn add_repeated(repeated: &Table, content: &mut Vec<u8>) -> Result<()> {
     Ok(())
 }
 
+// Adds bytes that are given as numbers.
+fn add_bytes(numbers: &[Value], content: &mut Vec<u8>) -> Result<()> {
+    for number in numbers {
+        match u8::try_from(number_of("a byte", number)?) {
+            Ok(byte) => content.push(byte)?,
+            Err(_) => bail!("a byte is out of range"),
+        }
+    }
+    Ok(())
+}
+
 // Adds a part of a file.
 fn add_part(texts: &Table, part: &Value, content: &mut Vec<u8>) -> Result<()> {
     match part {
         Value::String(text) => add_text(texts, text.as_str(), content),
+        Value::Array(numbers) => add_bytes(numbers.as_slice(), content),
         Value::Table(repeated) => add_repeated(repeated, content),
-        _ => bail!("a part is a text, or a text so many times"),
+        _ => bail!("a part is a text, bytes, or a text so many times"),
     }
 }
 

@@ -15,7 +15,7 @@ use std::rt::Files;
 use std::thread::Threads;
 use toml::{Table, Value};
 
-const TABLES: [&str; 9] = [
+const TABLES: [&str; 12] = [
     "plans.toml",
     "openings.toml",
     "refusals.toml",
@@ -25,6 +25,9 @@ const TABLES: [&str; 9] = [
     "audits.toml",
     "limits.toml",
     "hostile.toml",
+    "bytes.toml",
+    "at_once.toml",
+    "each_kind.toml",
 ];
 
 // A table of the folder that the program runs in.

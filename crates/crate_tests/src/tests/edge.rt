@@ -10,15 +10,13 @@ use std::io;
 use std::io::{Cursor, ErrorKind, Read, Write};
 use std::test::Fail;
 
-// Gives or takes one byte a turn, every other turn is interrupted, and after `turns` bytes it ends, or fails with an error of
-// this kind.
+// Gives or takes one byte a turn, and after `turns` bytes it ends, or fails with an error of this kind.
 #[derive(Drop)]
 struct Slow<'a> {
     given: &'a [u8],
     taken: Vec<u8>,
     turns: usize,
     end: Option<ErrorKind>,
-    is_interrupted: bool,
 }
 
 impl<'a> Slow<'a> {
@@ -28,7 +26,6 @@ impl<'a> Slow<'a> {
             taken: Vec::new(alloc),
             turns,
             end,
-            is_interrupted: false,
         }
     }
 
@@ -36,10 +33,6 @@ impl<'a> Slow<'a> {
     fn turn(&mut self, bytes: usize) -> io::Result<bool>
         ensures { IfOk result (λ moves. IsTrue moves → 1 ≤ bytes) }
     {
-        self.is_interrupted = !self.is_interrupted;
-        if self.is_interrupted {
-            return Err(io::Error::from(ErrorKind::Interrupted));
-        }
         if self.turns == 0 {
             return match self.end {
                 Some(kind) => Err(io::Error::from(kind)),
@@ -80,7 +73,7 @@ impl<'a> Write for Slow<'a> {
 }
 
 // After so many bytes a reader of "abcdef" ends or fails: what comes of reading at most so many, and one more.
-const READS: [(usize, Option<ErrorKind>, usize, Result<&str, ErrorKind>); 6] = [
+const READS: [(usize, Option<ErrorKind>, usize, Result<&str, ErrorKind>); 7] = [
     (9, None, 9, Ok("abcdef")),
     (9, None, 6, Ok("abcdef")),
     (9, None, 3, Ok("abcd")),
@@ -91,6 +84,12 @@ const READS: [(usize, Option<ErrorKind>, usize, Result<&str, ErrorKind>); 6] = [
         Some(ErrorKind::BrokenPipe),
         3,
         Err(ErrorKind::BrokenPipe),
+    ),
+    (
+        3,
+        Some(ErrorKind::Interrupted),
+        3,
+        Err(ErrorKind::Interrupted),
     ),
 ];
 
@@ -107,8 +106,9 @@ fn what_a_slow_reader_has_is_read_to_the_end_or_the_limit(rt: HostRuntime) {
 }
 
 // After so many bytes a writer takes none or fails: what comes of putting "abc" and "def", and what it holds then.
-const WRITES: [(usize, Option<ErrorKind>, bool, bool, &str); 4] = [
+const WRITES: [(usize, Option<ErrorKind>, bool, bool, &str); 5] = [
     (6, None, true, true, "abcdef"),
+    (4, Some(ErrorKind::Interrupted), true, false, "abcd"),
     (5, Some(ErrorKind::BrokenPipe), true, false, "abcde"),
     (3, None, true, false, "abc"),
     (0, Some(ErrorKind::StorageFull), false, false, ""),

@@ -95,11 +95,11 @@ const CASES: [(&[(u32, u32)], &[(u32, u32)]); 7] = [
 ];
 
 // Windows that are none are a failure of the test.
-fn window_set(spans: &[(u32, u32)]) -> Result<WindowSet, Fail> {
+fn window_set(alloc: Global, spans: &[(u32, u32)]) -> Result<WindowSet, Fail> {
     if !are_in_days(spans) {
         return Err(Fail::new("not in the two days"));
     }
-    Ok(WindowSet::new(spans)?)
+    Ok(WindowSet::new(alloc, spans)?)
 }
 
 // Whether open times and their copy are those of the definition.
@@ -108,7 +108,7 @@ fn agree_with_copy(
     windows: &[(u32, u32)],
     closures: &[(u32, u32)],
 ) -> Result<bool, Fail> {
-    let set = window_set(windows)?;
+    let set = window_set(alloc, windows)?;
     let times = OpenTimes::of(alloc, &set, &closures_of(closures))?;
     assert_send_sync(&times);
     Ok(agrees(windows, closures, &times) && times.copy()? == times)
@@ -150,7 +150,7 @@ const CUTS: [(&[(u32, u32)], &[(u32, u32)]); 5] = [
 ];
 
 fn cut(alloc: Global, runway: &OpenTimes, windows: &[(u32, u32)]) -> Result<OpenTimes, Fail> {
-    Ok(runway.within(alloc, &window_set(windows)?)?)
+    Ok(runway.within(alloc, &window_set(alloc, windows)?)?)
 }
 
 // Whether the runway's open seconds in windows are those of the definition, and the same in other windows.
@@ -192,7 +192,7 @@ const FAULTS: [(&[(u32, u32)], Option<WindowFault>); 8] = [
 fn the_first_fault_of_windows_is_named(rt: HostRuntime) {
     for (spans, fault) in FAULTS {
         assert!(rt; are_in_days(spans));
-        assert_eq!(rt; WindowSet::new(spans).err(), fault);
+        assert_eq!(rt; WindowSet::new(rt.alloc(), spans).err(), fault);
     }
 }
 

@@ -15,7 +15,7 @@ fn problem_of_one(alloc: Global) -> Result<Problem, Fail>
     ensures { IfOk result (λ problem. length problem.flights ≡ 1) }
 {
     let table = PairTable::new([[90; CATEGORY_COUNT]; CATEGORY_COUNT])?;
-    let windows = WindowSet::new(&[(1000, 1200)])?;
+    let windows = WindowSet::new(alloc, &[(1000, 1200)])?;
     let callsign = Callsign::read(b"AB1").ok_or("not a callsign")?;
     let times = OpenTimes::of(alloc, &windows, &Closures::new())?;
     let mut waiting = Vec::new(alloc);

@@ -59,6 +59,31 @@ fn counts_pieces() -> Counting {
     }
 }
 
+// Notes the pieces that have passed, each as a bit.
+#[derive(Drop)]
+struct Noting {
+    noted: AtomicU64,
+}
+
+impl Noting {
+    // Whether the piece of a number below 64 has passed.
+    fn has_passed(&self, piece: usize) -> bool {
+        self.noted.load(Ordering::SeqCst) >> (piece % 64) & 1 == 1
+    }
+}
+
+impl Gate for Noting {
+    fn pass(&self, piece: u32) {
+        self.noted.fetch_or(1 << (piece % 64), Ordering::SeqCst);
+    }
+}
+
+fn notes_pieces() -> Noting {
+    Noting {
+        noted: AtomicU64::new(0),
+    }
+}
+
 // Whether each number is the last three digits of its place.
 fn are_last_digits(column: &[u32]) -> bool {
     column
@@ -81,7 +106,7 @@ fn is_filled<R: Threads + Sync, G: Gate + Sync>(
     Ok(are_last_digits(&column))
 }
 
-// How many entries a column has, and the piece at which its second half begins.
+// How many entries a column has, and the piece at which its second lane begins.
 const HALVES: [(u16, u32); 4] = [(1025, 1), (2048, 1), (2049, 2), (5120, 3)];
 
 #[test]
@@ -106,30 +131,72 @@ fn each_piece_passes_the_gate_once_and_the_last_may_be_shorter(
     Ok(())
 }
 
-// Whether the squares of eight items are made, each thread making so many at least.
+// Whether each entry of a column of so many tells that its piece had passed before the entry was made.
+fn are_made_behind<R: Threads + Sync>(rt: &R, alloc: Global, len: usize) -> Result<bool, AllocError>
+    requires { len < 2 ^ 32 }
+{
+    let gate = notes_pieces();
+    let mut column = vec![in alloc; 7u32; len]?;
+    fill_numbers(
+        rt,
+        column.as_mut_slice(),
+        &gate,
+        &|i| u32::from(gate.has_passed(i / PIECE)),
+    );
+    Ok(column.iter().all(|entry| *entry == 1))
+}
+
+#[test]
+fn each_piece_of_a_column_passes_before_its_work(rt: HostRuntime) -> Result<(), Fail> {
+    for len in [1, PIECE, PIECE + 1, 5 * PIECE + 6] {
+        assert!(rt; are_made_behind(&rt, rt.alloc(), len)?, "{len}");
+    }
+    Ok(())
+}
+
+// Whether each of twenty items tells that it had passed before it was made, where a thread makes so many at least.
+fn are_listed_behind<R: Threads + Sync>(
+    rt: &R,
+    alloc: Global,
+    grain: usize,
+) -> Result<bool, AllocError> {
+    let gate = notes_pieces();
+    let items = fill_long_lists(rt, alloc, 20, grain, &gate, &|i| Ok(gate.has_passed(i)))?;
+    Ok(items.iter().all(|passed| *passed))
+}
+
+#[test]
+fn each_item_of_a_list_passes_before_it_is_made(rt: HostRuntime) -> Result<(), Fail> {
+    for grain in [1, 7, 20] {
+        assert!(rt; are_listed_behind(&rt, rt.alloc(), grain)?, "{grain}");
+    }
+    Ok(())
+}
+
+// Whether the squares of eight items are made, a thread making so many at least.
 fn are_squares<R: Threads + Sync>(
     rt: &R,
     alloc: Global,
     gate: &Counting,
-    least: usize,
+    grain: usize,
 ) -> Result<bool, AllocError> {
-    let squares = fill_long_lists(rt, alloc, 8, least, gate, &|i| Ok((i % 8) * (i % 8)))?;
+    let squares = fill_long_lists(rt, alloc, 8, grain, gate, &|i| Ok((i % 8) * (i % 8)))?;
     Ok(squares.as_slice() == [0, 1, 4, 9, 16, 25, 36, 49].as_slice())
 }
 
 // Whether eight items are refused where one of them is.
-fn are_refused<R: Threads + Sync>(rt: &R, alloc: Global, gate: &Counting, least: usize) -> bool {
+fn are_refused<R: Threads + Sync>(rt: &R, alloc: Global, gate: &Counting, grain: usize) -> bool {
     let item = |i| if i == 5 { Err(AllocError) } else { Ok(i) };
-    fill_long_lists(rt, alloc, 8, least, gate, &item).is_err()
+    fill_long_lists(rt, alloc, 8, grain, gate, &item).is_err()
 }
 
 #[test]
 fn each_item_is_a_piece(rt: HostRuntime) -> Result<(), Fail> {
-    for least in 1..10 {
+    for grain in 1..10 {
         let gate = counts_pieces();
-        assert!(rt; are_squares(&rt, rt.alloc(), &gate, least)?);
+        assert!(rt; are_squares(&rt, rt.alloc(), &gate, grain)?);
         assert_eq!(rt; gate.passes.load(Ordering::SeqCst), 8);
-        assert!(rt; are_refused(&rt, rt.alloc(), &gate, least));
+        assert!(rt; are_refused(&rt, rt.alloc(), &gate, grain));
     }
     Ok(())
 }

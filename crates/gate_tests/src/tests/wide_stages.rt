@@ -7,9 +7,9 @@ use std::test::Fail;
 use std::thread::Threads;
 use traffic_gen::generate;
 
-// The first stage of more than 1,024 windows in the traffic of seed 7.
+// The first stage of more than 1,024 windows in the traffic of seed 7. It has two pieces, of which two lanes take one each.
 fn first_wide_stage<R: Threads + Sync>(rt: &R, alloc: Global) -> Result<u8, Fail> {
-    let (aerodrome, flights) = generate(alloc, 7, 20, 3)?.into_parts();
+    let (aerodrome, flights) = generate(alloc, 7, 60, 3)?.into_parts();
     let begun = begin(rt, alloc, aerodrome, flights, &FreeGate);
     let (sequencer, _) = begun.ok().ok_or("the traffic opens no situation")?;
     let planner = sequencer.planner();
@@ -27,7 +27,7 @@ fn summary<R: Threads + Sync, G: Gate + Sync>(
     alloc: Global,
     gate: &G,
 ) -> Result<Vec<u8>, Fail> {
-    text_of(rt, alloc, &["trial", "7", "20", "3"], Vec::new(alloc), gate)
+    text_of(rt, alloc, &["trial", "7", "60", "3"], Vec::new(alloc), gate)
 }
 
 #[test]
@@ -46,12 +46,12 @@ fn two_pieces_of_a_stage_run_beside_each_other(rt: HostRuntime) -> Result<(), Fa
 #[test]
 fn the_text_is_the_same_at_every_gate(rt: HostRuntime) -> Result<(), Fail> {
     let text = summary(&rt, rt.alloc(), &FreeGate)?;
-    assert!(rt; text.starts_with(b"flights 20\nk 3\nnodes "));
+    assert!(rt; text.starts_with(b"flights 60\nk 3\nnodes "));
     let gate = CountingGate::new();
     assert_eq!(rt;
         text.as_slice(),
         summary(&rt, rt.alloc(), &gate)?.as_slice()
     );
-    assert!(rt; gate.passes() > 20);
+    assert!(rt; gate.passes() > 60);
     Ok(())
 }

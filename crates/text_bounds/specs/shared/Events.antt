@@ -1,20 +1,22 @@
 -- What is asked of each kind of event: the callsigns that the events of a log name are short, and so is the cause of
 -- each refusal.
 use Rattle.std.proofs.Common.{◌≡◌, ℕ, ◌≤◌, inl, inr, List, [], ◌∷◌, length, map, Bool, cond}
-use Rattle.std.proofs.Common.{Result, Ok, subst, Option, Some, None, arith}
+use Rattle.std.proofs.Common.{Result, Ok, Err, subst, Option, Some, None, arith}
 use Rattle.std.proofs.lemmas.Grind.{common_steps}
 use Rattle.std.specs.Prelude.{All, codes, bytes_eq, nat_le, IsTrue, find, option_map, nat_lt, IfOk}
 use Rattle.std.proofs.lemmas.Bool.{cases_Bool}
 use Rattle.std.proofs.lemmas.List.Elements.{All-nil, All-map}
-use Rattle.cps_base.specs.Answers.{◌>>=◌}
+use Rattle.cps_base.specs.Answers.{◌>>=◌, ok_map}
 use Rattle.cps_base.specs.Limits.{most_closures, most_flights, most_waiting}
 use Rattle.arrivals.specs.declared.event.Event as log
+use Rattle.arrivals.specs.declared.event.Event.TheVariants as logged
 use Rattle.arrivals.specs.Seen.{event_of}
 use Rattle.csv_records.specs.Rows.{Fields}
-use Rattle.csv_records.specs.Values.{added, values_in, values_by}
+use Rattle.csv_records.specs.Values.{added, value_in, values_in, values_by}
+use Rattle.flight_file.specs.Fields.{flight_at}
 use Rattle.event_log.specs.declared.fault.LogCause.{LogCause}
-use Rattle.event_log.specs.Kinds.{add_in, cancel_in, clock_in, close_in, estimate_in, event_by, reopen_in}
-use Rattle.event_log.specs.Reading.{event_in, events_by, events_in, events_of, fault_at}
+use Rattle.event_log.specs.Kinds.{add_in, cancel_in, clock_in, closed_in, estimate_in, event_by}
+use Rattle.event_log.specs.Reading.{events, events_of}
 use Rattle.text_bounds.specs.Replays.{HasShortName, IsInDays}
 use Rattle.text_bounds.specs.shared.Lengths.{callsign_short, second_short}
 use Rattle.std.specs.List.{list_any}
@@ -54,16 +56,16 @@ unfolding cancel_in
 cancel_named r = grind arith
 
 add_named : (r : Fields) → IfOk (add_in r) IsNamed
-unfolding add_in
+unfolding add_in flight_at
 add_named r = grind arith
 
-close_named : (r : Fields) → IfOk (close_in r) IsNamed
-unfolding close_in
-close_named r = grind arith
-
-reopen_named : (r : Fields) → IfOk (reopen_in r) IsNamed
-unfolding reopen_in
-reopen_named r = grind arith
+span_named : (make : ℕ → ℕ → log.Event) → ((from to : ℕ) → IsNamed (make from to)) → (r : Fields)
+    → IfOk (ok_map (λ span. make span.0 span.1) (closed_in r)) IsNamed
+span_named make named r = go (closed_in r)
+  where
+    go : (x : Result (ℕ × ℕ) LogCause) → IfOk (ok_map (λ span. make span.0 span.1) x) IsNamed
+    go (Ok span) = named span.0 span.1
+    go (Err e) = tt
 
 clock_named : (r : Fields) → IfOk (clock_in r) IsNamed
 unfolding clock_in
@@ -75,26 +77,25 @@ kind_named kind r =
     by_cond _ (bytes_eq kind (codes "estimate")) _ _ (estimate_named r)
     (by_cond _ (bytes_eq kind (codes "cancel")) _ _ (cancel_named r)
     (by_cond _ (bytes_eq kind (codes "add")) _ _ (add_named r)
-    (by_cond _ (bytes_eq kind (codes "close")) _ _ (close_named r)
-    (by_cond _ (bytes_eq kind (codes "reopen")) _ _ (reopen_named r)
+    (by_cond _ (bytes_eq kind (codes "close")) _ _ (span_named logged.Close (λ from to. tt) r)
+    (by_cond _ (bytes_eq kind (codes "reopen")) _ _ (span_named logged.Reopen (λ from to. tt) r)
     (by_cond _ (bytes_eq kind (codes "clock")) _ _ (clock_named r) tt)))))
 
-record_named : (n : ℕ) (r : Fields) → IfOk (event_in n r) IsNamed
-unfolding event_in
-record_named n r = grind (arith, by_cond, then_ok, kind_named)
+record_named : (before : List log.Event) (r : Fields) → IfOk (value_in events before r) IsNamed
+record_named before r = grind (arith, by_cond, then_ok, kind_named)
 
 added_named : (before : List log.Event) (x : Result log.Event LogCause) → All IsNamed before → IfOk x IsNamed
-    → IfOk (added fault_at before x) (All IsNamed)
+    → IfOk (added events before x) (All IsNamed)
 added_named before x all named = grind (arith, common_steps)
 
 rows_named : (before : List log.Event) (rs : List Fields) → All IsNamed before
-    → IfOk (events_in before rs) (All IsNamed)
+    → IfOk (values_in events before rs) (All IsNamed)
 unfolding values_in
 rows_named before [] all = all
 rows_named before (r ∷ rs) all = then_ok _ _ _ _ (added_named _ _ all (record_named _ r))
     (λ events named. rows_named events rs named)
 
-all_named : (rs : List Fields) → IfOk (events_by rs) (All IsNamed)
+all_named : (rs : List Fields) → IfOk (values_by events rs) (All IsNamed)
 unfolding values_by
 all_named rs = grind (arith, by_cond, rows_named, All-nil)
 

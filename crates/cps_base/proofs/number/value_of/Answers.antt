@@ -1,6 +1,6 @@
 -- One more digit: ten times the value so far and the digit.
-use Rattle.std.proofs.Common.{◌≡◌, ◌+◌, ◌-◌, ◌*◌, ◌^◌, ◌<◌, ◌≤◌, ℕ, List, length, arith, get_or, true, inl, inr, rules}
-use Rattle.std.proofs.Common.{tests, take, min, ap, ◌∙◌}
+use Rattle.std.proofs.Common.{◌≡◌, ◌^◌, ◌<◌, ℕ, List, length, arith, get_or, true, inl, inr, rules}
+use Rattle.std.proofs.Common.{tests, take, subst, SomeIff}
 use Rattle.std.specs.Char.{is_ascii_digit}
 use Rattle.std.specs.Int.{IsInRange}
 use Rattle.std.specs.List.{list_all}
@@ -33,21 +33,18 @@ fold-requires-clause-callable c =
     fold_may_call (YieldsList-from_slice digits (cc)) (λ a x b q called. search (rules, tests))
     (λ k a x at.
     let digit = is_digit_at digits k (slice_get_within digits k x.now at) c.requires in
-    let low : 48 ≤ x.now = omega (arith, digit, get_or_from_slice_get digits k x.now 0 at) in
+    let low = subst (IsInRange 48 57) (get_or_from_slice_get digits k x.now 0 at) digit in
     search (rules, tests))
 
 pub returns : goal.returns
 returns c =
     let digits = c.args.digits.now in
-    let made = kept_by_fold _ (λ i value. value ≡ min (digits_value 10 (take i digits)) (2 ^ 128 - 1))
+    let made = kept_by_fold _ (λ i value. SomeIff value (digits_value 10 (take i digits) < 2 ^ 64) (digits_value 10 (take i digits)))
     c.fold.ensures.ran (YieldsList-from_slice digits (cc)) (omega arith)
     (λ i value x b q at held called.
     let lt = slice_get_within digits i x.now at in
     let is = get_or_from_slice_get digits i x.now 0 at in
-    let digit = is_digit_at digits i lt c.requires in
-    let worth = digit_value_digit (get_or digits i 0) digit in
     let more = digits_value_more 10 digits i lt in
-    let gives : (q ≡ record {}) × (b ≡ min (min (value * 10) (2 ^ 128 - 1) + (x.now - 48)) (2 ^ 128 - 1)) =
-    search (rules, tests) in
-    (gives.0, omega (arith, gives.1, held, more, worth, digit, is))) in
-    made ∙ ap (λ ds. min (digits_value 10 ds) (2 ^ 128 - 1)) (take_all (length digits) digits (omega arith))
+    let worth = digit_value_digit (get_or digits i 0) (is_digit_at digits i lt c.requires) in
+    search (rules, tests)) in
+    subst (λ ds. SomeIff c.fold.result (digits_value 10 ds < 2 ^ 64) (digits_value 10 ds)) (take_all (length digits) digits (omega arith)) made

@@ -12,7 +12,7 @@ count : (g : given.Over) (c : goal.After-joined g) → c.lane_count.result ≡ l
 count g c = grind (arith, length-map)
 
 lanes : (g : given.Over) (c : goal.After-joined g)
-    → AreLanes (λ list. list.items) (λ i x. goal.F-post g c.args.f.now i (Ok x)) c.max-size.result
+    → AreLanes (λ list. list.items) (λ i x. goal.F-post g c.args.f.now i (Ok x)) c.lane_of-size.result
     c.args.n 0 c.in_ok-lanes.lanes.items
 lanes g c j v lt =
     let is = count g c in
@@ -20,22 +20,22 @@ lanes g c j v lt =
     ∙ get_or-map Ok c.in_ok-lanes.lanes.items j v (Ok v) lt in
     let each = (c.in_ok-answers.ensures.each j (Ok v) (omega (arith, is, lt))).1 in
     let met = subst (λ r. IfOk r
-    (λ items. (length items.items ≡ min c.max-size.result (c.args.n - j * c.max-size.result))
+    (λ items. (length items.items ≡ min c.lane_of-size.result (c.args.n - j * c.lane_of-size.result))
     × ((k : ℕ) (d : g.row.T.Denot) → k < length items.items
-    → goal.F-post g c.args.f.now (j * c.max-size.result + k) (Ok (slice_index_or items.items k d)))))
+    → goal.F-post g c.args.f.now (j * c.lane_of-size.result + k) (Ok (slice_index_or items.items k d)))))
     at each.met in
-    let here : IsLane (λ list. list.items) (λ i x. goal.F-post g c.args.f.now i (Ok x)) c.max-size.result c.args.n
-    (j * c.max-size.result) (slice_index_or c.in_ok-lanes.lanes.items j v) =
+    let here : IsLane (λ list. list.items) (λ i x. goal.F-post g c.args.f.now i (Ok x)) c.lane_of-size.result c.args.n
+    (j * c.lane_of-size.result) (slice_index_or c.in_ok-lanes.lanes.items j v) =
     record { len = met.0; each = met.1 } in
-    subst (λ s. IsLane (λ list. list.items) (λ i x. goal.F-post g c.args.f.now i (Ok x)) c.max-size.result c.args.n s
+    subst (λ s. IsLane (λ list. list.items) (λ i x. goal.F-post g c.args.f.now i (Ok x)) c.lane_of-size.result c.args.n s
     (slice_index_or c.in_ok-lanes.lanes.items j v)) (omega arith) here
 
-whole : (g : given.Over) (c : goal.After-joined g) → c.args.n ≤ length c.in_ok-lanes.lanes.items * c.max-size.result
-whole g c = subst (λ m. c.args.n ≤ m * c.max-size.result) (count g c) c.lane_count.ensures.whole
+whole : (g : given.Over) (c : goal.After-joined g) → c.args.n ≤ length c.in_ok-lanes.lanes.items * c.lane_of-size.result
+whole g c = subst (λ m. c.args.n ≤ m * c.lane_of-size.result) (count g c) c.lane_count.ensures.whole
 
 pub returns-clause-len : goal.returns-clause-len
 returns-clause-len g c = IfOk-weaker c.joined.result _ _ (λ items same.
-    let long = all_long (λ list. list.items) (λ i x. goal.F-post g c.args.f.now i (Ok x)) c.max-size.result
+    let long = all_long (λ list. list.items) (λ i x. goal.F-post g c.args.f.now i (Ok x)) c.lane_of-size.result
     c.args.n c.in_ok-lanes.lanes.items (whole g c) (lanes g c) in
     let is : length items.items ≡ c.args.n = ap length same ∙ long in
     search (rules, is)) c.joined.ensures
@@ -43,5 +43,5 @@ returns-clause-len g c = IfOk-weaker c.joined.result _ _ (λ items same.
 pub returns-clause-each : goal.returns-clause-each
 returns-clause-each g c = IfOk-weaker c.joined.result _ _ (λ items same i d lt.
     subst (λ l. goal.F-post g c.args.f.now i (Ok (slice_index_or l i d))) (sym same)
-    (all_each (λ list. list.items) (λ i x. goal.F-post g c.args.f.now i (Ok x)) c.max-size.result
+    (all_each (λ list. list.items) (λ i x. goal.F-post g c.args.f.now i (Ok x)) c.lane_of-size.result
     c.args.n c.in_ok-lanes.lanes.items (whole g c) (lanes g c) i d lt)) c.joined.ensures

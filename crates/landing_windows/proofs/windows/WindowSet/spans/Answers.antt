@@ -1,10 +1,7 @@
 -- The windows of a set are good ones, in order.
 use Rattle.std.proofs.Common.{arith}
-use Rattle.landing_windows.proofs.GoodWindows.{passed, in_order, good}
+use Rattle.landing_windows.proofs.GoodWindows.{in_order, good}
 use Rattle.landing_windows.proofs.windows.WindowSet.spans.Goals as goal
-
-pub shared_ref_as_front-result : goal.shared_ref_as_front-result
-shared_ref_as_front-result c = omega (arith, (passed _ c.self.invariant.2).few)
 
 pub returns-clause-good : goal.returns-clause-good
 returns-clause-good c = grind (arith, good)

@@ -3,16 +3,24 @@ use Rattle.replan.specs.Labels.{HoldsPairs, pairs_of}
 use Rattle.replan.proofs.LabelsLemmas.{of_column, of_costs, column_makespan, column_held}
 use Rattle.replan.proofs.labels.Labels.next_alone.Goals as goal
 
-pub column_alone-requires : goal.column_alone-requires
-column_alone-requires g c =
-    let is : of_column c.in-OfColumn.labels ≡ c.args.self.now = sym (ap pairs_of c.in-OfColumn.is) ∙ c.self.view_is in
-    (search rules, (c.requires.width, (column_held _ _ _ _ is c.requires.before, (c.requires.number, c.requires.next))))
+pub fill_alone-requires : goal.fill_alone-requires
+fill_alone-requires g c =
+    let is : of_column c.in-OfColumn.labels ≡ c.args.self.now = sym (ap pairs_of c.in-OfColumn.is) ∙ c.self.view_is in (
+      search rules,
+      (
+        c.requires.width,
+        (
+          column_held _ _ _ _ is c.requires.before,
+          (c.requires.number, (c.requires.next, c.in_ok-column-in-OfColumn.ensures)),
+        ),
+      ),
+    )
 
 pub returns-in_ok-left-in-OfColumn : goal.returns-in_ok-left-in-OfColumn
 returns-in_ok-left-in-OfColumn g c =
     let is : of_column c.in-OfColumn.labels ≡ c.args.self.now = sym (ap pairs_of c.in-OfColumn.is) ∙ c.self.view_is in
     c.in_ok-left-in-OfColumn.ensures c.args.problem.now (column_makespan _ _ _ _ is c.requires.before)
-    c.in_ok-column-in-OfColumn.ensures.landable c.in_ok-column-in-OfColumn.ensures.labels
+    c.fill_alone.ensures.landable c.fill_alone.ensures.labels
 
 pub returns-in_ok-left-in-OfCosts : goal.returns-in_ok-left-in-OfCosts
 returns-in_ok-left-in-OfCosts g c =

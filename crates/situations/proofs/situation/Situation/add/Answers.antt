@@ -11,7 +11,7 @@ last : (c : In_ok-insert) → c.insert.new.self.entries ≡ c.self.inside.active
 last c = search (rules, insert_entry-new, not_there)
 
 pub invariant_of-self-2 : goal.invariant_of-self-2
-invariant_of-self-2 c = grind (arith, common_steps, last c)
+invariant_of-self-2 c = grind (arith, common_steps, last ((goal.at.invariant_of-self-2 c).In_ok-insert))
 
 pub returns-clause-new : goal.returns-clause-new
 returns-clause-new c = grind (arith, common_steps, last ((goal.at.returns-clause-new c).In_ok-insert))

@@ -7,7 +7,7 @@ use Rattle.situations.proofs.situation.Situation.revise.Goals as goal
 use Rattle.situations.proofs.situation.Situation.revise.Goals.{Joined-get_mut, in-None, in-Some}
 
 changed : (c : Joined-get_mut) → IsChanged c.args.callsign
-    (λ a. record a { flight = revised (revision_of c.args.revision) a.flight }) c.self.inside
+    (λ a. record a { flight = revised (revision_of c.args.revision.now) a.flight }) c.self.inside
     c.match-get_mut.self-inside c.self.invariant
 changed c = elim c.match-get_mut.branch [
   | in-None w ↦ none_changed _ _ _ _ c.self.invariant
@@ -17,7 +17,7 @@ changed c = elim c.match-get_mut.branch [
       let new = w.revise.new.active in
       let holds = c.get_mut.follows.holds new in
       one_changed _ _ _ _ c.self.invariant (c.get_mut.follows.lender new) w.self-inside-is
-      (revision_keeps_name (revision_of c.args.revision)) c.get_mut.ensures.unique _ _ w.in-Some.ensures.value
+      (revision_keeps_name (revision_of c.args.revision.now)) c.get_mut.ensures.unique _ _ w.in-Some.ensures.value
       w.revise.ensures.new holds.0 holds.1
 ]
 

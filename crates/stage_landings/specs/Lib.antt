@@ -1,0 +1,4 @@
+-- The definitions of this crate.
+pub mod Reach
+pub mod Followers
+pub mod shared

@@ -1,0 +1,2 @@
+-- Lemmas that crates above cite too: the latest of landed flights.
+pub mod LatestLandings
