@@ -1,0 +1,1 @@
+"""Tools that stand beside the proved program. Nothing in here is proved."""
