@@ -1,14 +1,14 @@
 -- To keep some places of a list in place, step by step.
 use Rattle.std.proofs.Common.{[], rules, ◌≡◌, ℕ, zero, ◌+◌, ◌<◌, ◌≤◌, List, ◌∷◌, ◌++◌, length, drop, take, get_or, refl}
-use Rattle.std.proofs.Common.{arith, length-append, append-nil, add-one, ◌∙◌, sym, ap, ap₂, suc, Vec, Global}
-use Rattle.std.specs.Prelude.{Bool, true, false, ◌⊎◌, replicate, Result, Ok, Err, IsOk, OnErr}
+use Rattle.std.proofs.Common.{arith, length-append, append-nil, add-one, ◌∙◌, sym, ap, ap₂, suc}
+use Rattle.std.specs.Prelude.{Bool, true, false, ◌⊎◌, replicate, Option}
 use Rattle.std.specs.List.{AllZip, swap}
 use Rattle.std.proofs.Math.ListN.{set}
 use Rattle.std.proofs.Math.Seq.{take-suc, take-suc-set}
 use Rattle.std.proofs.lemmas.Bool.Decides.{nat_tests}
 use Rattle.std.proofs.lemmas.List.{drop-set-lt, take-set, take-set-le, drop-drop, get_or-drop, length-take-le}
 use Rattle.std.proofs.lemmas.List.Edits.{swap_is, length-swap}
-use Rattle.cps_network.specs.Compacted.{kept_where}
+use Rattle.cps_network.specs.Compacted.{kept_where, whole_or_left}
 
 -- the first kept places hold what is kept of the first i, and the places from i on are as they were
 pub record IsCompacting {A : Type 0} (old now : List A) (answers : List Bool) (kept i : ℕ) : Type 0 where
@@ -113,21 +113,12 @@ all_as_they_were zero (x ∷ xs) le = absurd (omega arith)
 all_as_they_were (suc n) [] le = refl
 all_as_they_were {A} (suc n) (x ∷ xs) le = grind (arith, (all_as_they_were n xs (omega arith)))
 
--- ---- where what holds a list is as it was, or a clone of it
+-- ---- where what is left is written to
 
-as_cloned : {A : Type 0} (R : A → A → Type 0) (xs ys : List A) → ((x y : A) → R x y → y ≡ x) → AllZip R xs ys → ys ≡ xs
-as_cloned R [] [] same all = refl
-as_cloned R [] (y ∷ ys) same all = absurd all
-as_cloned R (x ∷ xs) [] same all = absurd all
-as_cloned {A} R (x ∷ xs) (y ∷ ys) same all = grind (arith, (as_cloned R xs ys same all.1))
-
-pub same_or_cloned : {A : Type 0} (R : A → A → Type 0) {X : Type 0} (old new : Vec A Global)
-    → ((x y : A) → R x y → y ≡ x)
-    → (new ≡ old) ⊎ (AllZip R old.items new.items × X) → new.items ≡ old.items
-same_or_cloned R old new same how = grind (arith, as_cloned)
-
-pub err_says : {T E Y : Type 0} (r : Result T E) (e : E) → r ≡ Err e → OnErr r Y → Y
-err_says {T} {E} {Y} r e is said = rw is at said
-
-pub is_ok : {T E : Type 0} (r : Result T E) (x : T) → r ≡ Ok x → IsOk r
-is_ok {T} {E} r x is = rw is refl
+-- what is kept of a list that was copied from a whole, where there is one
+pub kept_of_whole : {V B : Type 0} (inside : V → List B) (whole taken : Option V) (left copied now : List B)
+    (answers : List Bool) → taken ≡ whole
+    → copied ≡ whole_or_left taken inside left → now ≡ kept_where answers copied
+    → now ≡ kept_where answers (whole_or_left whole inside left)
+kept_of_whole inside whole taken left copied now answers e is kept =
+    kept ∙ ap (kept_where answers) (is ∙ ap (λ w. whole_or_left w inside left) e)

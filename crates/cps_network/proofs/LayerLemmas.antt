@@ -1,12 +1,11 @@
 -- The windows of the next stage.
-use Rattle.std.proofs.Common.{◌≡◌, ℕ, ◌+◌, ◌*◌, ◌<◌, ◌≤◌, List, [], length, arith, ◌∙◌, sym, subst}
+use Rattle.std.proofs.Common.{◌≡◌, ℕ, ◌+◌, ◌*◌, List, [], arith, ◌∙◌, sym, subst}
 use Rattle.std.proofs.lemmas.List.Elements.{Contains-get_or}
 use Rattle.std.proofs.lemmas.List.{get_or_default}
-use Rattle.std.specs.Prelude.{ℤ, ◌↔◌, Contains}
+use Rattle.std.specs.Prelude.{ℤ, Contains}
 use Rattle.std.proofs.lemmas.Int.{ints}
 use Rattle.cps_nodes.specs.Windows.{IsWindow}
 use Rattle.cps_nodes.specs.Laws.{LeadOn, offset_after}
-use Rattle.cps_nodes.specs.Leads.{Extends, TailMeetsHead}
 use Rattle.landing_rules.specs.Problem.{Problem}
 use Rattle.cps_network.specs.Lists.{node_at, AreWindows}
 use Rattle.cps_network.specs.Landable.{HoldsCandidates}
@@ -33,16 +32,6 @@ pub next_at : (p : Problem) (a b : ℕ) (xs ys us vs : List (List ℤ)) → IsNe
     → xs ≡ ys → us ≡ vs → IsNextOf p b ys vs
 next_at p a b xs ys us vs next e f h = subst (λ (q : ℕ). IsNextOf p q ys vs) e
     (subst (λ (zs : List (List ℤ)). IsNextOf p a zs vs) f (subst (λ (zs : List (List ℤ)). IsNextOf p a xs zs) h next))
-
--- a range of the windows whose tail is the head of a window is that of those that lead to it
-pub extends_exact : (w : ℕ) (before : List (List ℤ)) (node : List ℤ) (from to : ℕ) → LeadOn w
-    → AreWindows w before → IsWindow w node
-    → ((i : ℕ) → i < length before → TailMeetsHead (node_at before i) node ↔ ((from ≤ i) × (i < to)))
-    → (i : ℕ) → i < length before → Extends (node_at before i) node ↔ ((from ≤ i) × (i < to))
-extends_exact w before node from to law valid is exact i lt = (
-  grind arith,
-  λ range. (law.meets (node_at before i) node (valid i lt) is).1 ((exact i lt).1 range),
-)
 
 -- where the stage before holds the landable windows, the next holds the candidates
 pub candidates : (p : Problem) (before after : ℕ × List (List ℤ)) → IsNextOf p before.0 before.1 after.1

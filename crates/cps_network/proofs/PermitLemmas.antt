@@ -1,13 +1,7 @@
 -- Tests that are made together.
-use Rattle.std.proofs.Common.{arith, Bool, true, false, Option, Some, None, refl}
-use Rattle.std.specs.Prelude.{IsTrue, ◌↔◌, ◌&&◌, is_some}
-use Rattle.std.specs.Option.{SomeIff}
+use Rattle.std.proofs.Common.{arith, Bool, true, false}
+use Rattle.std.specs.Prelude.{IsTrue, ◌↔◌, ◌&&◌}
 use Rattle.std.proofs.lemmas.Bool.{false≢true}
-
--- whether a value was found says whether what it asks holds
-pub is_some_tells : {T : Type 0} (r : Option T) (P : Type 0) (v : T) → SomeIff r P v → IsTrue (is_some r) ↔ P
-is_some_tells (Some x) P v h = (λ _. h.0, λ _. refl)
-is_some_tells None P v h = (λ t. absurd (false≢true t), λ p. absurd (h p))
 
 -- three tests hold together where each does
 pub all_three : (a b c : Bool) (A B C : Type 0) → (IsTrue a ↔ A) → (IsTrue b ↔ B) → (IsTrue c ↔ C)

@@ -10,7 +10,7 @@ ghost use Rattle.cps_network.specs.Permits.{IsPermitted};
 
 use crate::ahead::{Ahead, ahead_of};
 use crate::permit::{due_set, may_follow, most_shift, placed_set, reach};
-use cps_nodes::{ExtendableWindow, Window};
+use cps_nodes::Window;
 use cps_problem::Problem;
 use std::alloc::{AllocError, Global};
 
@@ -39,7 +39,7 @@ impl Group {
 // Some offsets and that of a rank, where the rank is permitted.
 fn with_rank<const W: usize>(
     problem: &Problem,
-    window: &ExtendableWindow<W>,
+    window: &Window<W>,
     stage: u8,
     rank: u8,
     placed: u64,
@@ -63,12 +63,7 @@ fn with_rank<const W: usize>(
 }
 
 // The offsets at which a rank is permitted after a window of a stage, each tested.
-fn tested_offsets<const W: usize>(
-    problem: &Problem,
-    window: &ExtendableWindow<W>,
-    stage: u8,
-    due: u64,
-) -> u8
+fn tested_offsets<const W: usize>(problem: &Problem, window: &Window<W>, stage: u8, due: u64) -> u8
     requires width { W ≡ 2 * problem.now.k + 1 }
     requires stage { stage < length problem.now.flights }
     requires due { (rank : ℕ) → HasBit due rank ↔ (rank + W / 2 ≤ stage) }
@@ -98,10 +93,9 @@ fn permitted_offsets<const W: usize>(
     requires free { HasFree problem.now stage ahead.free }
     ensures { HasPermitted problem.now stage window.now result }
 {
-    let extendable = window.extendable();
-    match ahead.free_of(extendable.accepted()) {
+    match ahead.free_of(window.accepted()) {
         Some(offsets) => offsets,
-        None => tested_offsets(problem, &extendable, stage, due),
+        None => tested_offsets(problem, window, stage, due),
     }
 }
 

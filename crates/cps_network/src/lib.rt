@@ -27,5 +27,5 @@ pub use links::Links;
 pub use next::next_stage;
 pub use node::{Node, placed_node};
 pub use permit::is_permitted;
-pub use source_range::{run_of, sources};
+pub use source_range::sources;
 pub use stage::Stage;

@@ -26,7 +26,7 @@ pub fn placed_node<const W: usize>(window: &Window<W>, stage: u8) -> Node
 {
     let last = last_placed(window, stage);
     let due = due_set(stage, (W / 2) as u8);
-    let placed = placed_set(&window.extendable(), stage, due);
+    let placed = placed_set(window, stage, due);
     Node {
         placed: placed / 2 * 2,
         last,

@@ -12,7 +12,7 @@ ghost use Rattle.cps_theory.specs.LegalPrefix.{IsLegalPrefix};
 ghost use Rattle.landing_joint.specs.RankedProblem.{ranked};
 
 use crate::laws::prefix_laws;
-use cps_nodes::{ExtendableWindow, Window};
+use cps_nodes::Window;
 use cps_problem::Problem;
 
 // The most places by which a flight may leave its first-come place.
@@ -50,7 +50,7 @@ pub(crate) fn due_set(stage: u8, k: u8) -> u64
 }
 
 // The ranks that a window of a stage places, as bits.
-pub(crate) fn placed_set<const W: usize>(window: &ExtendableWindow<W>, stage: u8, due: u64) -> u64
+pub(crate) fn placed_set<const W: usize>(window: &Window<W>, stage: u8, due: u64) -> u64
     requires stage { stage ≤ most_waiting }
     requires due { (rank : ℕ) → HasBit due rank ↔ (rank + W / 2 ≤ stage) }
     ensures { (rank : ℕ) → 1 ≤ rank → HasBit result rank ↔ IsPlaced window.now (pos stage) (pos
@@ -82,7 +82,7 @@ pub(crate) fn is_in_time(problem: &Problem, landed: u8, rank: u8) -> bool
 // of them fails first costs more.
 pub(crate) fn may_follow<const W: usize>(
     problem: &Problem,
-    window: &ExtendableWindow<W>,
+    window: &Window<W>,
     stage: u8,
     rank: u8,
     placed: u64,
@@ -97,7 +97,7 @@ pub(crate) fn may_follow<const W: usize>(
 {
     // k is at most 3, and at most `MOST_WAITING` flights wait.
     let _near = problem.head();
-    let is_accepted = window.extend(offset_of(stage, rank)).is_some();
+    let is_accepted = window.accepts(offset_of(stage, rank));
     let in_time = is_in_time(problem, stage, rank);
     let follows_all = problem.pairs().all_before(rank, placed);
     is_accepted & in_time & follows_all
@@ -117,9 +117,8 @@ fn permits<const W: usize>(problem: &Problem, window: &Window<W>, stage: u8, ran
     if rank > stage + 1 + k || stage + 1 > rank + k {
         return false;
     }
-    let extendable = window.extendable();
-    let placed = placed_set(&extendable, stage, due_set(stage, k));
-    may_follow(problem, &extendable, stage, rank, placed)
+    let placed = placed_set(window, stage, due_set(stage, k));
+    may_follow(problem, window, stage, rank, placed)
 }
 
 /// Whether a rank is permitted after a window of a stage. To be permitted step by step is to be legal as a whole: for every

@@ -1,6 +1,6 @@
 //! The windows that lead to a window.
 
-ghost use Rattle.std.specs.Prelude.{ℕ, ◌-◌, ◌<◌, ◌≤◌, ◌↔◌, length, IsTrue, not};
+ghost use Rattle.std.specs.Prelude.{ℕ, ◌<◌, ◌≤◌, ◌↔◌, length, IsTrue, not};
 ghost use Rattle.cps_nodes.specs.Windows.{IsWidth};
 ghost use Rattle.cps_network.specs.Lists.{IsAscending, node_at};
 ghost use Rattle.cps_nodes.specs.Leads.{Extends, TailMeetsHead, IsBelow};
@@ -24,49 +24,6 @@ fn first_source<const W: usize>(before: &[Window<W>], node: &Window<W>) -> usize
     )
 }
 
-// How many places are looked at before all are searched.
-const FEW: usize = 8;
-
-// The first of a few places, from this one on, whose window's tail is not below the node's head, or the place behind them.
-#[inline]
-pub(crate) fn near_begin<const W: usize>(
-    before: &[Window<W>],
-    node: &Window<W>,
-    near: usize,
-) -> usize {
-    let end = before.len().min(near.saturating_add(FEW));
-    (near..end)
-        .find(
-            |place: &usize| -> bool
-                requires { place.now < length before.now }
-            { !before[*place].is_below(node) },
-        )
-        .unwrap_or(end)
-}
-
-/// Which of eight runs a window belongs to: those with the same first offset. In such a run the windows that lead to each stand
-/// in the order of the run.
-#[inline]
-pub fn run_of<const W: usize>(window: &Window<W>) -> usize
-    ensures { result < 8 }
-{
-    // Each offset is -k to k.
-    let _valid = window.last();
-    window.offset(0).rem_euclid(8) as usize
-}
-
-// Whether the windows that lead to a node may begin at this place: the one before it does not lead there.
-fn may_begin_at<const W: usize>(before: &[Window<W>], node: &Window<W>, place: usize) -> bool
-    ensures within { IsTrue result → place ≤ length before.now }
-    ensures first { IsTrue result → 0 < place
-        → TailMeetsHead (node_at before.now (place - 1)) node.now → ⊥ }
-{
-    if place > before.len() {
-        return false;
-    }
-    place == 0 || !before[place - 1].leads_to(node)
-}
-
 // The first place, from this one on, whose window does not lead to a node.
 fn end_from<const W: usize>(before: &[Window<W>], node: &Window<W>, from: usize) -> usize
     requires { from ≤ length before.now }
@@ -87,24 +44,14 @@ fn end_from<const W: usize>(before: &[Window<W>], node: &Window<W>, from: usize)
         .unwrap_or(before.len())
 }
 
-// The half-open range of the windows that lead to a window. It is fastest where the hint is its first place.
-pub(crate) fn sources_near<const W: usize>(
-    before: &[Window<W>],
-    node: &Window<W>,
-    hint: usize,
-) -> (usize, usize)
+// The half-open range of the windows that lead to a window.
+fn range_of<const W: usize>(before: &[Window<W>], node: &Window<W>) -> (usize, usize)
     requires width { IsWidth W }
     requires ascending { IsAscending before.now }
     ensures range { (result.0 ≤ result.1) × (result.1 ≤ length before.now) }
     ensures exact { (i : ℕ) → i < length before.now
         → TailMeetsHead (node_at before.now i) node.now ↔ ((result.0 ≤ i) × (i < result.1)) }
 {
-    if may_begin_at(before, node, hint) {
-        let to = end_from(before, node, hint);
-        if to > hint {
-            return (hint, to);
-        }
-    }
     let from = first_source(before, node);
     (from, end_from(before, node, from))
 }
@@ -119,5 +66,5 @@ pub fn sources<const W: usize>(before: &Stage<W>, node: &Window<W>) -> (usize, u
     window_laws::<W>();
     // The node is a window, as those of the stage are.
     let _valid = node.last();
-    sources_near(before.windows(), node, before.len())
+    range_of(before.windows(), node)
 }

@@ -1,17 +1,15 @@
 //! A stage: its number, and its windows in ascending order.
 
-ghost use Rattle.std.specs.Prelude.{◌≡◌, ℕ, ℤ, pos, ◌^◌, ◌<◌, ◌≤◌, ◌↔◌, List, [], ◌∷◌, Bool, length, replicate, IsTrue, IfOk, IfSome, OnOk, OnErr, vec_len};
+ghost use Rattle.std.specs.Prelude.{◌≡◌, ℕ, ℤ, pos, ◌^◌, ◌<◌, ◌≤◌, ◌↔◌, List, [], ◌∷◌, Bool, length, replicate, IsTrue, IfOk, IfSome, vec_len};
 ghost use Rattle.std.specs.Arc.{arc_value};
 ghost use Rattle.std.specs.Fn.{FnReturnsAt};
 ghost use Rattle.std.specs.List.{AllZip};
 ghost use Rattle.cps_nodes.specs.Windows.{IsWidth, IsWindow};
-ghost use Rattle.cps_nodes.specs.Leads.{Extends};
 ghost use Rattle.cps_network.specs.Compacted.{kept_where};
 ghost use Rattle.cps_network.specs.Lists.{AreWindows, IsAscending, most_in_a_stage, node_at};
 
-use crate::compact::{compact_all, keeps_all};
+use crate::compact::{compact_all, copy_into_room, keeps_all, shared_copy};
 use crate::links::Links;
-use crate::source_range::{near_begin, sources_near};
 use cps_nodes::{Window, window_laws};
 use std::alloc::{AllocError, Global};
 use std::marker::Model;
@@ -21,24 +19,28 @@ use std::sync::Arc;
 #[derive(Drop)]
 pub struct Stage<const W: usize> {
     number: u8,
-    // A list that other stages may have too, until some of it is left out here.
-    windows: Arc<Vec<Window<W>>, Global>,
+    // All windows that it was made with, a list that other stages may have too. None once some are left out.
+    whole: Option<Arc<Vec<Window<W>>, Global>>,
+    // The windows that are then left. Before that none, but room for all.
+    left: Vec<Window<W>>,
     // The links from the windows of the stage before to these, where they are worth keeping.
     links: Option<Arc<Links<W>, Global>>,
 }
 
 impl<const W: usize> Model for Stage<W> {
-    ghost use Rattle.std.specs.Prelude.{◌≡◌, ℕ, ℤ, List, IfSome};
+    ghost use Rattle.std.specs.Prelude.{◌≡◌, ◌≤◌, ℕ, ℤ, List, [], length, vec_capacity, IfSome};
     ghost use Rattle.std.specs.Arc.{arc_value};
+    ghost use Rattle.cps_network.specs.Compacted.{whole_or_left};
     ghost use Rattle.cps_network.specs.Lists.{IsAscending, AreWindows};
 
     ghost Value = { ℕ × List (List ℤ) };
 
-    ghost view = { λ s. (s.number, (arc_value s.windows).items) };
+    ghost view = { λ s. (s.number, whole_or_left s.whole (λ list. (arc_value list).items) s.left.items) };
 
-    ghost invariant = { λ s. IsAscending (arc_value s.windows).items
-        × AreWindows W (arc_value s.windows).items
-        × IfSome s.links (λ l. (arc_value l).target ≡ (arc_value s.windows).items) };
+    ghost invariant = { λ s. let windows = whole_or_left s.whole (λ list. (arc_value list).items) s.left.items in
+        IsAscending windows × AreWindows W windows
+        × IfSome s.whole (λ list. (s.left.items ≡ []) × (length (arc_value list).items ≤ vec_capacity s.left))
+        × IfSome s.links (λ l. (arc_value l).target ≡ windows) };
 }
 
 impl<const W: usize> Stage<W> {
@@ -64,11 +66,29 @@ impl<const W: usize> Stage<W> {
         requires valid { AreWindows W windows.items }
         ensures { IfOk result (λ s. s ≡ (number, windows.entry.items)) }
     {
-        let windows = Arc::new(alloc, windows)?;
+        let list = Arc::new(alloc, windows)?;
+        let stage = Stage::of_list(alloc, number, list, None)?;
+        Ok(stage)
+    }
+
+    // The stage of the windows of a list, with these links, and with room for a list of its own.
+    fn of_list(
+        alloc: Global,
+        number: u8,
+        list: Arc<Vec<Window<W>>, Global>,
+        links: Option<Arc<Links<W>, Global>>,
+    ) -> Result<Stage<W>, AllocError>
+        requires ascending { IsAscending (arc_value list).items }
+        requires valid { AreWindows W (arc_value list).items }
+        requires links { IfSome links (λ l. (arc_value l).target ≡ (arc_value list).items) }
+        ensures { IfOk result (λ s. s ≡ (number, (arc_value list.entry).items)) }
+    {
+        let left = Vec::with_capacity(alloc, list.len())?;
         Ok(Stage {
             number,
-            windows,
-            links: None,
+            whole: Some(list),
+            left,
+            links,
         })
     }
 
@@ -90,17 +110,39 @@ impl<const W: usize> Stage<W> {
         };
         Ok(Stage {
             number: self.number,
-            windows: self.windows,
+            whole: self.whole,
+            left: self.left,
             links: kept,
         })
     }
 
-    // The windows in a list that stages may share.
+    // The windows in a list that stages may share: a copy of what is left, where some are left out.
     pub(crate) fn shared_windows(&self) -> Result<Arc<Vec<Window<W>>, Global>, AllocError>
         ensures { IfOk result (λ list. (arc_value list).items ≡ self.now.1) }
     {
-        let list = Arc::try_clone(&self.windows)?;
-        Ok(list)
+        match &self.whole {
+            Some(list) => {
+                let list = Arc::try_clone(list)?;
+                Ok(list)
+            }
+            None => {
+                let list = shared_copy(&self.left)?;
+                Ok(list)
+            }
+        }
+    }
+
+    // The links, which stages share.
+    fn shared_links(&self) -> Result<Option<Arc<Links<W>, Global>>, AllocError>
+        ensures { IfOk result (λ links. IfSome links (λ l. (arc_value l).target ≡ self.now.1)) }
+    {
+        match &self.links {
+            None => Ok(None),
+            Some(links) => {
+                let links = Arc::try_clone(links)?;
+                Ok(Some(links))
+            }
+        }
     }
 
     /// The links from the windows of a stage to those of this one, where they are kept.
@@ -132,14 +174,14 @@ impl<const W: usize> Stage<W> {
         ensures few { length self.now.1 ≤ W ^ W }
         ensures below { length self.now.1 ≤ most_in_a_stage }
     {
-        self.windows.len()
+        self.windows().len()
     }
 
     /// Whether the stage has no window.
     pub fn is_empty(&self) -> bool
         ensures { IsTrue result ↔ (self.now.1 ≡ []) }
     {
-        self.windows.is_empty()
+        self.windows().is_empty()
     }
 
     /// The window at place i of the stage, counted from 0.
@@ -148,34 +190,29 @@ impl<const W: usize> Stage<W> {
         ensures valid { IsWindow W result }
         ensures value { result ≡ node_at self.now.1 i }
     {
-        self.windows[i]
+        self.windows()[i]
     }
 
     /// Keeps the windows and the labels at the places whose label `keep` accepts, in order. Other stages that share the windows
-    /// keep them all. It wants memory only where a window goes that others have too, and after want of it nothing has changed.
-    pub fn compact<T: Drop, F: Fn(&T) -> bool>(
-        &mut self,
-        labels: &mut Vec<T>,
-        keep: F,
-    ) -> Result<(), AllocError>
+    /// keep them all. It takes no memory.
+    pub fn compact<T: Drop, F: Fn(&T) -> bool>(&mut self, labels: &mut Vec<T>, keep: F)
         requires width { IsWidth W }
         requires one_each { vec_len labels.old ≡ length self.old.1 }
         requires callable { F.IsAlwaysCallable keep }
         ensures number { self.new.0 ≡ self.old.0 }
-        ensures kept { OnOk result ((answers : List Bool)
+        ensures kept { (answers : List Bool)
             × AllZip (FnReturnsAt F.Fn keep) labels.old.items answers
             × (self.new.1 ≡ kept_where answers self.old.1)
-            × (labels.new.items ≡ kept_where answers labels.old.items)) }
-        ensures unchanged { OnErr result ((self.new ≡ self.old) × (labels.new ≡ labels.old)) }
+            × (labels.new.items ≡ kept_where answers labels.old.items) }
     {
         if keeps_all(labels, &keep) {
-            return Ok(());
+            return;
         }
-        // The links would have the windows shared, and so copied here.
+        // The links lead to the whole list.
         self.links = None;
-        let windows = Arc::make_mut(&mut self.windows)?;
-        compact_all(windows, labels, &keep);
-        Ok(())
+        let whole = self.whole.take();
+        copy_into_room(whole, &mut self.left);
+        compact_all(&mut self.left, labels, &keep);
     }
 
     /// The windows, in ascending order.
@@ -184,7 +221,10 @@ impl<const W: usize> Stage<W> {
         ensures ascending { IsAscending self.now.1 }
         ensures valid { AreWindows W self.now.1 }
     {
-        self.windows.as_slice()
+        match &self.whole {
+            Some(list) => list.as_slice(),
+            None => self.left.as_slice(),
+        }
     }
 
     /// The same stage once more; its windows are shared.
@@ -199,34 +239,11 @@ impl<const W: usize> Stage<W> {
     pub fn copy_as(&self, number: u8) -> Result<Stage<W>, AllocError>
         ensures { IfOk result (λ s. s ≡ (number, self.now.1)) }
     {
-        let windows = Arc::try_clone(&self.windows)?;
-        let links = match &self.links {
-            None => None,
-            Some(links) => {
-                let links = Arc::try_clone(links)?;
-                Some(links)
-            }
-        };
-        Ok(Stage {
-            number,
-            windows,
-            links,
-        })
-    }
-
-    /// The half-open range of the windows of the stage before that lead to the window at place i. It is found without a search
-    /// where it begins at the place `near` or a few behind.
-    pub fn sources(&self, before: &Stage<W>, i: usize, near: usize) -> (usize, usize)
-        requires width { IsWidth W }
-        requires within { i < length self.now.1 }
-        ensures range { (result.0 ≤ result.1) × (result.1 ≤ length before.now.1) }
-        ensures exact { (j : ℕ) → j < length before.now.1
-            → Extends (node_at before.now.1 j) (node_at self.now.1 i)
-            ↔ ((result.0 ≤ j) × (j < result.1)) }
-    {
-        window_laws::<W>();
-        let node = self.node(i);
-        let earlier = before.windows();
-        sources_near(earlier, &node, near_begin(earlier, &node, near))
+        // The windows ascend.
+        let _ascending = self.windows();
+        let list = self.shared_windows()?;
+        let links = self.shared_links()?;
+        let stage = Stage::of_list(*self.left.allocator(), number, list, links)?;
+        Ok(stage)
     }
 }

@@ -8,4 +8,4 @@ mod order;
 mod window;
 
 pub use laws::window_laws;
-pub use window::{ExtendableWindow, Window};
+pub use window::Window;

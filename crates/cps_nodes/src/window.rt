@@ -6,7 +6,7 @@ ghost use Rattle.std.specs.Ordering.{int_eq};
 ghost use Rattle.std.specs.Cmp.Lexicographic.{pointwise};
 ghost use Rattle.cps_base.specs.Limits.{most_waiting};
 ghost use Rattle.cps_nodes.specs.Digits.{digit_offset, number_of, offsets_of, order_key};
-ghost use Rattle.cps_nodes.specs.Held.{AreHeld, IsDueHeldUpto};
+ghost use Rattle.cps_nodes.specs.Held.{AreHeld};
 ghost use Rattle.cps_nodes.specs.Leads.{Extends, IsBelow, GoOnAlike, TailMeetsHead};
 ghost use Rattle.cps_nodes.specs.Ranks.{RanksKeepShift, HasLanded, window_of};
 ghost use Rattle.cps_nodes.specs.WindowOrder.{window_cmp};
@@ -38,27 +38,6 @@ impl<const W: usize> Model for Window<W> {
     ghost inverse = { λ xs. record { digits = number_of xs } };
 
     ghost inverse_ok = { λ w h i. record { digits = number-IsPacked W w.digits h i } };
-}
-
-/// A window that is to be extended: the ranks that it holds are at hand, found once for all offsets that are tried.
-#[derive(Drop)]
-pub struct ExtendableWindow<const W: usize> {
-    window: Window<W>,
-    // The ranks that some place holds, counted from the place of the first offset: bit 8 + r for rank r.
-    held: u32,
-    // The highest offset of a landing after which the rank that is then due is held.
-    highest: i8,
-}
-
-impl<const W: usize> Model for ExtendableWindow<W> {
-    ghost use Rattle.std.specs.Prelude.{List, ℤ};
-    ghost use Rattle.cps_nodes.specs.Held.{AreHeld, IsDueHeldUpto};
-
-    ghost Value = { List ℤ };
-
-    ghost view = { λ w. w.window };
-
-    ghost invariant = { λ w. AreHeld w.window w.held × IsDueHeldUpto W w.window w.highest };
 }
 
 // What digit i of a number counts, the lowest digit being digit 0.
@@ -160,17 +139,6 @@ fn has_rank(held: u32, rank: i8) -> bool
     (held >> bit_of(rank)) & 1 == 1
 }
 
-// The highest offset of one more landing after which a window with these ranks holds the rank that is then due: k where it is
-// held already, and else -k, at which it lands itself.
-#[inline]
-fn highest_offset<const W: usize>(held: u32) -> i8
-    requires { IsWidth W }
-    ensures { (xs : List ℤ) → IsWindow W xs → AreHeld xs held → IsDueHeldUpto W xs result }
-{
-    let k = (W / 2) as i8;
-    if has_rank(held, k + 1) { k } else { -k }
-}
-
 // How many offsets from -k on are those of landings after which a window with these ranks holds the rank that is then due.
 #[inline]
 fn count_due<const W: usize>(held: u32) -> u32
@@ -181,6 +149,18 @@ fn count_due<const W: usize>(held: u32) -> u32
 {
     let k = (W / 2) as i8;
     if has_rank(held, k + 1) { W as u32 } else { 1 }
+}
+
+// The bit that stands for an offset from -k to k in a set of offsets.
+#[inline]
+fn bit_of_offset<const W: usize>(offset: i8) -> u32
+    requires width { W < 8 }
+    requires low { pos 0 ≤ℤ (offset +ℤ pos (W / 2)) }
+    requires high { offset ≤ℤ pos (W / 2) }
+    ensures few { result < 8 }
+    ensures bit { pos result ≡ offset +ℤ pos (W / 2) }
+{
+    (offset + (W / 2) as i8) as u32
 }
 
 // So many lowest bits.
@@ -201,19 +181,6 @@ impl<const W: usize> Window<W> {
     {
         Window {
             digits: 0x8888_8888 % place_value(W),
-        }
-    }
-
-    /// The same window, to be extended.
-    #[inline]
-    pub fn extendable(&self) -> ExtendableWindow<W>
-        ensures { result ≡ self.now }
-    {
-        let held = held_ranks::<W>(self.digits);
-        ExtendableWindow {
-            window: *self,
-            held,
-            highest: highest_offset::<W>(held),
         }
     }
 
@@ -309,24 +276,6 @@ impl<const W: usize> Window<W> {
         self.digits % place_value(W.saturating_sub(2))
     }
 
-    // Whether both windows have the same offsets.
-    #[inline]
-    pub(crate) fn has_same_offsets(&self, other: &Window<W>) -> bool
-        ensures { result ≡ pointwise int_eq self.now other.now }
-    {
-        self.digits == other.digits
-    }
-
-    // The order of windows.
-    #[inline]
-    pub(crate) fn compare(&self, other: &Window<W>) -> Ordering
-        ensures { result ≡ window_cmp self.now other.now }
-    {
-        order_key::<W>(self.digits).cmp(&order_key::<W>(other.digits))
-    }
-}
-
-impl<const W: usize> ExtendableWindow<W> {
     /// The ranks from 1 on that the window holds where it is one of a stage up to `MOST_WAITING`, as bits: bit r for rank r.
     #[inline]
     pub fn held_at(&self, stage: u8) -> u64
@@ -335,12 +284,9 @@ impl<const W: usize> ExtendableWindow<W> {
         ensures held { (rank : ℕ) → 1 ≤ rank → (bit_at result rank ≡ 1)
             ↔ HoldsRank self.now (pos rank -ℤ pos stage +ℤ pos (W - 1)) }
     {
-        let window = self.window;
-        // A digit is 8 more than its offset, so that the digits are those of a window.
-        let _digits = window.digits;
-        let held = u64::from(self.held);
+        let held = u64::from(held_ranks::<W>(self.digits));
 
-        // The rank that is the stage's number has bit `start` in the set that is kept, and bit `stage` in the answer.
+        // The rank that is the stage's number has bit `start` in the set that is held, and bit `stage` in the answer.
         let start = W as u8 + 7;
         if stage < start {
             return held >> (start - stage);
@@ -348,19 +294,30 @@ impl<const W: usize> ExtendableWindow<W> {
         held << (stage - start)
     }
 
-    /// The offsets from -k to k that the window accepts, as bits: bit k + offset.
+    /// The offsets from -k to k that the window accepts, as bits: bit k + offset. It accepts the offset of a landing exactly
+    /// where it does not hold the flight, and the flight that is then due, of the rank k below the new place, is in the window
+    /// after it.
     #[inline]
     pub fn accepted(&self) -> u64
         ensures valid { IsWindow W self.now }
         ensures accepted { (j : ℕ) → (bit_at result j ≡ 1)
             ↔ ((j < W) × Accepts self.now (pos j -ℤ pos (W / 2))) }
     {
-        let window = self.window;
-        // Its digits are those of a window.
-        let _digits = window.digits;
-        let due = lowest_bits(count_due::<W>(self.held));
-        let held = u64::from(self.held);
+        let ranks = held_ranks::<W>(self.digits);
+        let due = lowest_bits(count_due::<W>(ranks));
+        let held = u64::from(ranks);
         (!held >> (W - W / 2 + 8)) & due
+    }
+
+    /// Whether the window accepts an offset from -k to k.
+    #[inline]
+    pub fn accepts(&self, offset: i8) -> bool
+        requires low { pos 0 ≤ℤ (offset +ℤ pos (W / 2)) }
+        requires high { offset ≤ℤ pos (W / 2) }
+        ensures valid { IsWindow W self.now }
+        ensures accepts { IsTrue result ↔ Accepts self.now offset }
+    {
+        (self.accepted() >> bit_of_offset::<W>(offset)) & 1 == 1
     }
 
     /// The window after one more landing, at this offset from -k to k. `None` exactly where the flight stands in this
@@ -379,15 +336,25 @@ impl<const W: usize> ExtendableWindow<W> {
             → SomeIff result (RanksKeepShift (W / 2) (ranks ++ rank ∷ []))
             (window_of W (ranks ++ rank ∷ [])) }
     {
-        let window = self.window;
-        let digits = window.digits;
-        if has_rank(self.held, W as i8 + offset) {
+        if !self.accepts(offset) {
             return None;
         }
-        if offset > self.highest {
-            return None;
-        }
-        let digits = shift::<W>(digits, offset);
-        Some(Window { digits })
+        Some(self.after(offset))
+    }
+
+    // Whether both windows have the same offsets.
+    #[inline]
+    pub(crate) fn has_same_offsets(&self, other: &Window<W>) -> bool
+        ensures { result ≡ pointwise int_eq self.now other.now }
+    {
+        self.digits == other.digits
+    }
+
+    // The order of windows.
+    #[inline]
+    pub(crate) fn compare(&self, other: &Window<W>) -> Ordering
+        ensures { result ≡ window_cmp self.now other.now }
+    {
+        order_key::<W>(self.digits).cmp(&order_key::<W>(other.digits))
     }
 }

@@ -109,26 +109,23 @@ impl Costs {
         Ok(())
     }
 
-    /// Keeps the windows and the lists at the places whose list is not empty, in order. It wants memory only where a window
-    /// goes that other stages share, and after want of it nothing has changed.
-    pub fn keep_landable<const W: usize>(&mut self, stage: &mut Stage<W>) -> Result<(), AllocError>
+    /// Keeps the windows and the lists at the places whose list is not empty, in order. It takes no memory.
+    pub fn keep_landable<const W: usize>(&mut self, stage: &mut Stage<W>)
         requires width { IsWidth W }
         requires one_each { length self.old ≡ length stage.old.1 }
         ensures number { stage.new.0 ≡ stage.old.0 }
-        ensures windows { OnOk result (stage.new.1 ≡ known_of self.old stage.old.1) }
-        ensures lists { OnOk result (self.new ≡ known_of self.old self.old) }
-        ensures unchanged { OnErr result ((stage.new ≡ stage.old) × (self.new ≡ self.old)) }
+        ensures windows { stage.new.1 ≡ known_of self.old stage.old.1 }
+        ensures lists { self.new ≡ known_of self.old self.old }
 
         // What is left are the landable windows, where none was missing.
-        ensures landable { OnOk result ((p : Problem) → HasEachLandable p stage.old
-            → AreCosts p stage.old self.old → HoldsCosts p stage.new self.new) }
+        ensures landable { (p : Problem) → HasEachLandable p stage.old
+            → AreCosts p stage.old self.old → HoldsCosts p stage.new self.new }
     {
         stage.compact(
             &mut self.lists,
             |list: &Vec<(u32, u32)>|
                 ensures { result ≡ has_some list.now.items }
             { has_pair(list) },
-        )?;
-        Ok(())
+        );
     }
 }

@@ -82,37 +82,31 @@ impl Labels {
     }
 
     // What is left of a column where the stage keeps its landable windows alone.
-    fn left_of_column<const W: usize>(
-        mut column: Column,
-        stage: &mut Stage<W>,
-    ) -> Result<Labels, AllocError>
+    fn left_of_column<const W: usize>(mut column: Column, stage: &mut Stage<W>) -> Labels
         requires width { IsWidth W }
         requires one_each { length column ≡ length stage.old.1 }
-        ensures { IfOk result (λ labels. (p : Problem) → p.objective ≡ Objective.Makespan
+        ensures { (p : Problem) → p.objective ≡ Objective.Makespan
             → HasEachLandable p stage.old → AreLabels p stage.old column
-            → AreLandableOf p stage.old stage.new labels) }
+            → AreLandableOf p stage.old stage.new result }
     {
-        column.keep_landable(stage)?;
-        Ok(Labels {
+        column.keep_landable(stage);
+        Labels {
             kept: ByObjective::OfColumn(column),
-        })
+        }
     }
 
     // The same of pairs.
-    fn left_of_costs<const W: usize>(
-        mut costs: Costs,
-        stage: &mut Stage<W>,
-    ) -> Result<Labels, AllocError>
+    fn left_of_costs<const W: usize>(mut costs: Costs, stage: &mut Stage<W>) -> Labels
         requires width { IsWidth W }
         requires one_each { length costs ≡ length stage.old.1 }
-        ensures { IfOk result (λ labels. (p : Problem) → p.objective ≡ Objective.Delay
+        ensures { (p : Problem) → p.objective ≡ Objective.Delay
             → HasEachLandable p stage.old → AreCosts p stage.old costs
-            → AreLandableOf p stage.old stage.new labels) }
+            → AreLandableOf p stage.old stage.new result }
     {
-        costs.keep_landable(stage)?;
-        Ok(Labels {
+        costs.keep_landable(stage);
+        Labels {
             kept: ByObjective::OfCosts(costs),
-        })
+        }
     }
 
     // How many lists there are.
@@ -217,8 +211,7 @@ impl Labels {
                     planning.gate,
                     steps,
                 );
-                let left = Labels::left_of_column(column, stage)?;
-                Ok(left)
+                Ok(Labels::left_of_column(column, stage))
             }
             ByObjective::OfCosts(labels) => {
                 let costs = fill_costs(
@@ -231,8 +224,7 @@ impl Labels {
                     planning.gate,
                     steps,
                 )?;
-                let left = Labels::left_of_costs(costs, stage)?;
-                Ok(left)
+                Ok(Labels::left_of_costs(costs, stage))
             }
         }
     }
@@ -257,13 +249,11 @@ impl Labels {
             ByObjective::OfColumn(labels) => {
                 let mut column = column_for(alloc, stage)?;
                 fill_alone(problem, before, labels, stage, &mut column);
-                let left = Labels::left_of_column(column, stage)?;
-                Ok(left)
+                Ok(Labels::left_of_column(column, stage))
             }
             ByObjective::OfCosts(labels) => {
                 let costs = fill_costs_alone(alloc, problem, before, labels, stage)?;
-                let left = Labels::left_of_costs(costs, stage)?;
-                Ok(left)
+                Ok(Labels::left_of_costs(costs, stage))
             }
         }
     }

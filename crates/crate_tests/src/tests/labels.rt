@@ -13,7 +13,7 @@ fn left_of_labels(alloc: Global, column: &mut Column) -> Result<(usize, usize), 
     requires { length column.old ≡ 1 }
 {
     let mut stage: Stage<3> = Stage::start(alloc)?;
-    column.keep_landable(&mut stage)?;
+    column.keep_landable(&mut stage);
     Ok((column.len(), stage.len()))
 }
 
@@ -35,7 +35,7 @@ fn left_of_costs(alloc: Global, costs: &mut Costs) -> Result<(usize, usize), All
     requires { length costs.old ≡ 1 }
 {
     let mut stage: Stage<3> = Stage::start(alloc)?;
-    costs.keep_landable(&mut stage)?;
+    costs.keep_landable(&mut stage);
     Ok((costs.len(), stage.len()))
 }
 

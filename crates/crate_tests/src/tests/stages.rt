@@ -13,14 +13,14 @@ use std::test::Fail;
 fn sources_of_rank_2(stage: &Stage<3>) -> Option<(usize, usize)>
     requires { 0 < length stage.now.1 }
 {
-    let next = stage.node(0).extendable().extend(1)?;
+    let next = stage.node(0).extend(1)?;
     Some(sources(stage, &next))
 }
 
 // How many windows and labels are left of a stage where each of its windows is left out.
 fn left_of_none(alloc: Global, mut stage: Stage<3>) -> Result<(usize, usize), AllocError> {
     let mut labels = vec![in alloc; 7u32; stage.len()]?;
-    stage.compact(&mut labels, |label| *label > 7)?;
+    stage.compact(&mut labels, |label| *label > 7);
     Ok((stage.len(), labels.len()))
 }
 
@@ -34,7 +34,6 @@ fn the_first_stage_has_the_source_alone(rt: HostRuntime) -> Result<(), Fail> {
     );
     assert_eq!(rt; last_rank(&stage.node(0), stage.number()), 0);
     assert_eq!(rt; sources_of_rank_2(&stage), Some((0, 1)));
-    assert_eq!(rt; stage.sources(&stage, 0, 0), (0, 1));
     assert_eq!(rt; left_of_none(rt.alloc(), stage)?, (0, 0));
     Ok(())
 }
@@ -60,7 +59,7 @@ fn leave_out_first<const W: usize>(alloc: Global, stage: &mut Stage<W>) -> Resul
     if !labels.is_empty() {
         labels[0] = 0;
     }
-    stage.compact(&mut labels, |label| *label > 0)?;
+    stage.compact(&mut labels, |label| *label > 0);
     Ok(())
 }
 

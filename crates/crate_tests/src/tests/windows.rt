@@ -6,7 +6,7 @@ fn extended(window: Option<Window<3>>, offset: i8) -> Option<Window<3>> {
     if offset < -1 || offset > 1 {
         return None;
     }
-    window?.extendable().extend(offset)
+    window?.extend(offset)
 }
 
 fn offsets(window: &Window<3>) -> (i8, i8, i8) {

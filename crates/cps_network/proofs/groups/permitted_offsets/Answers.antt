@@ -10,7 +10,6 @@ returns-in-Some g c =
     → HasBit c.accepted.result j × HasBit c.args.ahead.free j)) c.in-Some.is c.free_of.ensures.some in
     let all = subst (λ (r : Option ℕ). IfSome r (λ offsets. (j : ℕ) → HasBit c.accepted.result j
     → HasBit c.args.ahead.open j → HasBit offsets j)) c.in-Some.is c.free_of.ensures.all in
-    rw (← c.extendable-extendable.ensures) (free_permitted c.args.problem.now c.args.stage g.row.W
-    c.extendable-extendable.result c.accepted.result c.args.ahead.open c.args.ahead.free c.in-Some.offsets
+    free_permitted c.args.problem.now c.args.stage g.row.W c.args.window.now c.accepted.result c.args.ahead.open c.args.ahead.free c.in-Some.offsets
     c.requires.width c.accepted.ensures.valid.len c.accepted.ensures.accepted c.requires.open c.requires.free
-    some all)
+    some all

@@ -1,20 +1,20 @@
 use Rattle.std.proofs.Common.{◌≡◌, ℕ, arith, subst, w8, to_z, of_z}
-use Rattle.std.specs.Prelude.{ℤ, pos, IsTrue, ◌↔◌, is_some}
+use Rattle.std.specs.Prelude.{ℤ, pos, IsTrue, ◌↔◌}
 use Rattle.std.proofs.lemmas.Int.{ints}
 use Rattle.precedence.specs.Pairs.{HasBit, MustPrecede, AreInRange}
 use Rattle.cps_nodes.specs.Windows.{Accepts, IsPlaced}
 use Rattle.cps_nodes.specs.Laws.{offset_after}
-use Rattle.cps_network.proofs.PermitLemmas.{is_some_tells, all_three}
+use Rattle.cps_network.proofs.PermitLemmas.{all_three}
 use Rattle.cps_network.proofs.permit.may_follow.Goals as goal
 
 pub returns : goal.returns
 returns g c =
     let at : to_z w8 (of_z w8 c.offset_of.result) ≡ offset_after c.args.stage c.args.rank =
     omega (arith, ints, c.offset_of.ensures, c.ranges.stage, c.requires.reach, c.offset_of.type_inv) in
-    let accepts : IsTrue c.is_some-is_accepted.result ↔ Accepts c.args.window.now
+    let accepts : IsTrue c.accepts-is_accepted.result ↔ Accepts c.args.window.now
     (offset_after c.args.stage c.args.rank) =
-    rw c.is_some-is_accepted.ensures (subst (λ (o : ℤ). IsTrue (is_some c.extend.result)
-    ↔ Accepts c.args.window.now o) at (is_some_tells _ _ _ c.extend.ensures.next)) in
+    subst (λ (o : ℤ). IsTrue c.accepts-is_accepted.result ↔ Accepts c.args.window.now o) at
+    c.accepts-is_accepted.ensures.accepts in
     let range : AreInRange c.args.problem.now.pairs =
     subst AreInRange c.pairs.ensures c.all_before-follows_all.ensures.in_range in
     let all : IsTrue c.all_before-follows_all.result ↔ ((first : ℕ)

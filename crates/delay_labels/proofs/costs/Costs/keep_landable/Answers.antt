@@ -7,26 +7,26 @@ use Rattle.delay_labels.specs.Bounds.{IsInDays}
 use Rattle.delay_labels.specs.Lists.{has_some, known_of}
 use Rattle.delay_labels.proofs.CompactLemmas.{kept_are, lists_kept, kept_costs}
 use Rattle.delay_labels.proofs.costs.Costs.keep_landable.Goals as goal
-use Rattle.delay_labels.proofs.costs.Costs.keep_landable.Goals.{In_ok-compact}
+use Rattle.delay_labels.proofs.costs.Costs.keep_landable.Goals.{After-compact}
 
-answers : (g : _) (c : In_ok-compact g) → c.in_ok-compact.ensures.kept.0
+answers : (g : _) (c : After-compact g) → c.compact.ensures.kept.0
     ≡ map (λ list. has_some list.items) c.self.inside.lists.items
-answers g c = let k = c.in_ok-compact.ensures.kept in
+answers g c = let k = c.compact.ensures.kept in
     answers_are (λ list. has_some list.items) _ (λ x b r. r.says.met ∙ ap (λ list. has_some list.items) r.shows) _ k.0 k.1
 
-pub invariant_of-self-2 : goal.invariant_of-self-2
-invariant_of-self-2 g c = let k = c.in_ok-compact.ensures.kept in
+pub invariant_of-self : goal.invariant_of-self
+invariant_of-self g c = let k = c.compact.ensures.kept in
     subst (All (λ list. All IsInDays list.items)) (sym k.3)
     (all_kept (λ list. All IsInDays list.items) k.0 c.self.inside.lists.items c.self.invariant)
 
 pub returns-clause-windows : goal.returns-clause-windows
-returns-clause-windows g c = let k = c.in_ok-compact.ensures.kept in
+returns-clause-windows g c = let k = c.compact.ensures.kept in
     k.2 ∙ ap (λ (bs : List Bool). kept_where bs c.args.stage.now.1)
     (kept_are (λ list. list.items) c.self.inside.lists.items c.compact.new.labels.items k.0 c.args.self.now
     c.self.view_is (answers g c))
 
 pub returns-clause-lists : goal.returns-clause-lists
-returns-clause-lists g c = let k = c.in_ok-compact.ensures.kept in
+returns-clause-lists g c = let k = c.compact.ensures.kept in
     lists_kept (λ list. list.items) c.self.inside.lists.items c.compact.new.labels.items k.0 c.args.self.now
     c.self.view_is (answers g c) k.3
 

@@ -8,17 +8,13 @@ use Rattle.makespan_labels.proofs.ColumnLemmas.{kept_labels}
 use Rattle.makespan_labels.proofs.column.Column.keep_landable.Goals as goal
 
 pub invariant_of-self : goal.invariant_of-self
-invariant_of-self g c = subst (λ (v : Vec ℕ Global). All IsEntry v.items)
-    (sym c.in_err-compact.ensures.unchanged.1) c.self.invariant
-
-pub invariant_of-self-2 : goal.invariant_of-self-2
-invariant_of-self-2 g c =
-    let k = c.in_ok-compact.ensures.kept in
+invariant_of-self g c =
+    let k = c.compact.ensures.kept in
     subst (All IsEntry) (sym k.3) (all_kept IsEntry k.0 c.self.inside.entries.items c.self.invariant)
 
 pub returns-clause-windows : goal.returns-clause-windows
 returns-clause-windows g c =
-    let k = c.in_ok-compact.ensures.kept in
+    let k = c.compact.ensures.kept in
     let are : k.0 ≡ map is_known c.self.inside.entries.items =
     answers_are is_known _ (λ x b r. r.says.met ∙ ap is_known r.shows) _ k.0 k.1 in
     k.2 ∙ ap (λ (bs : List Bool). kept_where bs c.args.stage.now.1) are
@@ -26,7 +22,7 @@ returns-clause-windows g c =
 
 pub returns-clause-labels : goal.returns-clause-labels
 returns-clause-labels g c =
-    let k = c.in_ok-compact.ensures.kept in
+    let k = c.compact.ensures.kept in
     let are : k.0 ≡ map is_known c.self.inside.entries.items =
     answers_are is_known _ (λ x b r. r.says.met ∙ ap is_known r.shows) _ k.0 k.1 in
     k.3 ∙ ap (λ (bs : List Bool). kept_where bs c.self.inside.entries.items) are
