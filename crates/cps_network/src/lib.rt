@@ -14,6 +14,7 @@ mod links;
 mod next;
 mod node;
 mod permit;
+mod shared;
 mod source_range;
 mod stage;
 

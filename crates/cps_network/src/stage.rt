@@ -235,8 +235,8 @@ impl<const W: usize> Stage<W> {
         Ok(same)
     }
 
-    /// A stage of this number with the same windows, which are shared.
-    pub fn copy_as(&self, number: u8) -> Result<Stage<W>, AllocError>
+    // A stage of this number with the same windows, which are shared.
+    pub(crate) fn copy_as(&self, number: u8) -> Result<Stage<W>, AllocError>
         ensures { IfOk result (λ s. s ≡ (number, self.now.1)) }
     {
         // The windows ascend.

@@ -7,6 +7,7 @@ mod landings;
 mod planner;
 mod problem;
 mod schedule;
+mod shared;
 
 pub use landing_rules::Objective;
 pub use planner::Planner;

@@ -7,6 +7,7 @@
 mod costs;
 mod fill;
 mod merge;
+mod shared;
 mod source;
 mod successor;
 

@@ -7,6 +7,7 @@
 
 mod column;
 mod label;
+mod shared;
 mod source;
 
 pub use column::{Column, NO_LABEL};

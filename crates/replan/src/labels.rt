@@ -82,31 +82,37 @@ impl Labels {
     }
 
     // What is left of a column where the stage keeps its landable windows alone.
-    fn left_of_column<const W: usize>(mut column: Column, stage: &mut Stage<W>) -> Labels
+    fn left_of_column<const W: usize>(
+        mut column: Column,
+        stage: &mut Stage<W>,
+    ) -> Result<Labels, AllocError>
         requires width { IsWidth W }
         requires one_each { length column ≡ length stage.old.1 }
-        ensures { (p : Problem) → p.objective ≡ Objective.Makespan
+        ensures { IfOk result (λ labels. (p : Problem) → p.objective ≡ Objective.Makespan
             → HasEachLandable p stage.old → AreLabels p stage.old column
-            → AreLandableOf p stage.old stage.new result }
+            → AreLandableOf p stage.old stage.new labels) }
     {
         column.keep_landable(stage);
-        Labels {
+        Ok(Labels {
             kept: ByObjective::OfColumn(column),
-        }
+        })
     }
 
     // The same of pairs.
-    fn left_of_costs<const W: usize>(mut costs: Costs, stage: &mut Stage<W>) -> Labels
+    fn left_of_costs<const W: usize>(
+        mut costs: Costs,
+        stage: &mut Stage<W>,
+    ) -> Result<Labels, AllocError>
         requires width { IsWidth W }
         requires one_each { length costs ≡ length stage.old.1 }
-        ensures { (p : Problem) → p.objective ≡ Objective.Delay
+        ensures { IfOk result (λ labels. (p : Problem) → p.objective ≡ Objective.Delay
             → HasEachLandable p stage.old → AreCosts p stage.old costs
-            → AreLandableOf p stage.old stage.new result }
+            → AreLandableOf p stage.old stage.new labels) }
     {
         costs.keep_landable(stage);
-        Labels {
+        Ok(Labels {
             kept: ByObjective::OfCosts(costs),
-        }
+        })
     }
 
     // How many lists there are.
@@ -211,7 +217,8 @@ impl Labels {
                     planning.gate,
                     steps,
                 );
-                Ok(Labels::left_of_column(column, stage))
+                let left = Labels::left_of_column(column, stage)?;
+                Ok(left)
             }
             ByObjective::OfCosts(labels) => {
                 let costs = fill_costs(
@@ -224,7 +231,8 @@ impl Labels {
                     planning.gate,
                     steps,
                 )?;
-                Ok(Labels::left_of_costs(costs, stage))
+                let left = Labels::left_of_costs(costs, stage)?;
+                Ok(left)
             }
         }
     }
@@ -249,11 +257,13 @@ impl Labels {
             ByObjective::OfColumn(labels) => {
                 let mut column = column_for(alloc, stage)?;
                 fill_alone(problem, before, labels, stage, &mut column);
-                Ok(Labels::left_of_column(column, stage))
+                let left = Labels::left_of_column(column, stage)?;
+                Ok(left)
             }
             ByObjective::OfCosts(labels) => {
                 let costs = fill_costs_alone(alloc, problem, before, labels, stage)?;
-                Ok(Labels::left_of_costs(costs, stage))
+                let left = Labels::left_of_costs(costs, stage)?;
+                Ok(left)
             }
         }
     }

@@ -58,6 +58,7 @@ impl WindowNodes {
     pub fn new(alloc: Global) -> Result<WindowNodes, AllocError>
         ensures stage { IfOk result (λ n. n.stage ≡ 0) }
         ensures places { IfOk result (λ n. n.places ≡ []) }
+        ensures firsts { IfOk result (λ n. n.firsts ≡ []) }
     {
         let nodes = WindowNodes::of(alloc, 0, Vec::new(alloc), Vec::new(alloc))?;
         Ok(nodes)

@@ -3,6 +3,7 @@
 
 mod fault;
 mod reading;
+mod shared;
 mod trial;
 
 pub use fault::{TrialCause, TrialFault};

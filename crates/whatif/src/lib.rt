@@ -5,6 +5,7 @@ mod laws;
 mod outcome;
 mod refusal;
 mod running;
+mod shared;
 mod text;
 
 pub use laws::{
