@@ -1,11 +1,12 @@
 -- Groups of the windows of a stage with the offsets that extend them, and the windows that so follow.
 use Rattle.std.specs.Prelude.{◌≡◌, ℕ, ℤ, pos, ◌+◌, ◌-◌, ◌/◌, ◌-ℤ◌, ◌<◌, ◌≤◌, ◌⊎◌, drop}
-use Rattle.std.specs.Prelude.{◌↔◌, List, length, slice_index_or, All, Contains}
+use Rattle.std.specs.Prelude.{◌↔◌, List, length, slice_index, slice_index_or, All, Contains}
 use Rattle.std.specs.declared.cmp.Ordering.TheVariants.{Less}
 use Rattle.std.specs.Ordering.{int_cmp}
 use Rattle.std.specs.Cmp.Lexicographic.{slice_cmp}
 use Rattle.precedence.specs.Pairs.{HasBit}
 use Rattle.cps_nodes.specs.Digits.{number_of}
+use Rattle.cps_nodes.specs.Leads.{Extends}
 use Rattle.cps_nodes.specs.WindowOrder.{window_cmp}
 use Rattle.cps_nodes.specs.Windows.{Accepts, shifted}
 use Rattle.landing_rules.specs.Problem.{Problem}
@@ -99,3 +100,10 @@ pub record AreInNextOrder (before : List (List ℤ)) (groups : List Group) : Typ
 -- each window of a list is below all that are to come
 abbrev pub StandBefore : List (List ℤ) → (List ℤ → Type 0) → Type 0
 StandBefore now Comes = (x next : List ℤ) → Contains now x → Comes next → window_cmp x next ≡ Less
+
+-- each window of a list has the place of a group whose windows lead to it
+pub record HavePlaces (before : List (List ℤ)) (groups : List Group) (windows : List (List ℤ)) (places : List ℕ)
+    : Type 0 where
+  pub one_each : length places ≡ length windows
+  pub within : (i : ℕ) → i < length windows → slice_index places i < length groups
+  pub leads : (i : ℕ) → i < length windows → Extends (front before groups (slice_index places i)) (node_at windows i)

@@ -1,10 +1,11 @@
 //! The windows of the next stage, gathered from groups.
 
-ghost use Rattle.std.specs.Prelude.{◌≡◌, ℕ, pos, ◌+◌, ◌-◌, ◌*◌, ◌/◌, ◌<◌, ◌≤◌, ◌⊎◌, ◌↔◌, length, not, All, IsTrue, OnOk, Contains, [], ◌∷◌, ◌++◌};
+ghost use Rattle.cps_network.specs.declared.groups.Group.{Group};
+ghost use Rattle.std.specs.Prelude.{◌≡◌, ℕ, List, pos, ◌+◌, ◌-◌, ◌*◌, ◌/◌, ◌<◌, ◌≤◌, ◌⊎◌, ◌↔◌, length, not, All, IsTrue, OnOk, Contains, [], ◌∷◌, ◌++◌};
 ghost use Rattle.cps_network.specs.Lists.{AreWindows, IsAscending, most_in_a_stage};
 ghost use Rattle.precedence.specs.Pairs.{HasBit};
 ghost use Rattle.cps_nodes.specs.Windows.{IsWidth};
-ghost use Rattle.cps_network.specs.Extended.{AreInNextOrder, Follows, FollowsBy, HasGrownBy, IsExtendable, StandBefore, group_at, offset_of};
+ghost use Rattle.cps_network.specs.Extended.{AreInNextOrder, Follows, FollowsBy, HasGrownBy, HavePlaces, IsExtendable, StandBefore, group_at, offset_of};
 
 use crate::groups::Group;
 use cps_nodes::Window;
@@ -14,21 +15,19 @@ use std::alloc::{AllocError, Global};
 #[derive(Drop)]
 pub(crate) struct Gathered<const W: usize> {
     pub(crate) windows: Vec<Window<W>>,
-    // For each window the place of the group that leads to it, where links are wanted.
+    // For each window the place of the group that leads to it.
     pub(crate) places: Vec<u32>,
-    pub(crate) are_linked: bool,
 }
 
 impl<const W: usize> Gathered<W> {
     // Adds a window to which the group at a place leads.
     fn push(&mut self, window: Window<W>, place: usize) -> Result<(), AllocError>
         requires { place ≤ most_in_a_stage }
-        ensures { OnOk result (self.new.windows.items ≡ self.old.windows.items ++ window.entry ∷ []) }
+        ensures windows { OnOk result (self.new.windows.items ≡ self.old.windows.items ++ window.entry ∷ []) }
+        ensures places { OnOk result (self.new.places.items ≡ self.old.places.items ++ place ∷ []) }
     {
         self.windows.push(window)?;
-        if self.are_linked {
-            self.places.push(place as u32)?;
-        }
+        self.places.push(place as u32)?;
         Ok(())
     }
 }
@@ -55,11 +54,15 @@ fn add_next<const W: usize>(
     requires bit { j < W }
     requires group { IsExtendable W before.now group }
     requires few { place ≤ most_in_a_stage }
+    requires valid { AreWindows W before.now }
     requires ascending { IsAscending gathered.old.windows.items }
     requires before { StandBefore gathered.old.windows.items (FollowsBy W before.now group j) }
     ensures ascending { OnOk result (IsAscending gathered.new.windows.items) }
     ensures members { OnOk result ((x : _) → Contains gathered.new.windows.items x
         ↔ (Contains gathered.old.windows.items x ⊎ FollowsBy W before.now group j x)) }
+    ensures places { OnOk result ((groups : List Group) → place < length groups → group_at groups place ≡ group
+        → HavePlaces before.now groups gathered.old.windows.items gathered.old.places.items
+        → HavePlaces before.now groups gathered.new.windows.items gathered.new.places.items) }
 {
     if !group.has(j) {
         return Ok(());
@@ -87,9 +90,12 @@ fn add_by<const W: usize>(
     requires ascending { IsAscending gathered.old.windows.items }
     requires before { StandBefore gathered.old.windows.items
         (λ x. (i : ℕ) × (block.0 ≤ i) × (i < block.1) × FollowsBy W before.now (group_at groups.now i) j x) }
+    requires places { HavePlaces before.now groups.now gathered.old.windows.items gathered.old.places.items }
     ensures ascending { OnOk result (IsAscending gathered.new.windows.items) }
     ensures members { OnOk result (HasGrownBy (λ i x. FollowsBy W before.now (group_at groups.now i) j x)
         block.0 block.1 gathered.old.windows.items gathered.new.windows.items) }
+    ensures places { OnOk result (HavePlaces before.now groups.now gathered.new.windows.items
+        gathered.new.places.items) }
 {
     for place in block.0..block.1 {
         add_next(before, groups[place], j, place, gathered)?;
@@ -115,9 +121,12 @@ fn add_block<const W: usize>(
     requires ascending { IsAscending gathered.old.windows.items }
     requires before { StandBefore gathered.old.windows.items
         (λ x. (i : ℕ) × (block.0 ≤ i) × (i < block.1) × Follows W before.now groups.now i x) }
+    requires places { HavePlaces before.now groups.now gathered.old.windows.items gathered.old.places.items }
     ensures ascending { OnOk result (IsAscending gathered.new.windows.items) }
     ensures members { OnOk result (HasGrownBy (Follows W before.now groups.now) block.0 block.1
         gathered.old.windows.items gathered.new.windows.items) }
+    ensures places { OnOk result (HavePlaces before.now groups.now gathered.new.windows.items
+        gathered.new.places.items) }
 {
     for j in 0..W as u8 {
         add_by(before, groups, block, j, gathered)?;
@@ -159,9 +168,12 @@ pub(crate) fn gather<const W: usize>(
     requires valid { AreWindows W before.now }
     requires order { AreInNextOrder before.now groups.now }
     requires none { gathered.old.windows.items ≡ [] }
+    requires places { HavePlaces before.now groups.now gathered.old.windows.items gathered.old.places.items }
     ensures ascending { OnOk result (IsAscending gathered.new.windows.items) }
     ensures members { OnOk result (HasGrownBy (Follows W before.now groups.now) 0 (length groups.now)
         gathered.old.windows.items gathered.new.windows.items) }
+    ensures places { OnOk result (HavePlaces before.now groups.now gathered.new.windows.items
+        gathered.new.places.items) }
 {
     let mut from = 0;
     while from < groups.len() {

@@ -3,7 +3,7 @@
 ghost use Rattle.std.specs.Prelude.{◌≡◌, ℕ, ◌+◌, ◌*◌, ◌<◌, ◌≤◌, [], length, IfOk};
 ghost use Rattle.cps_base.specs.Limits.{most_waiting};
 ghost use Rattle.cps_nodes.specs.Windows.{IsWidth};
-ghost use Rattle.cps_network.specs.Extended.{AreGroupsOf, AreInNextOrder, AreRanges};
+ghost use Rattle.cps_network.specs.Extended.{AreGroupsOf, AreInNextOrder, AreRanges, HavePlaces};
 ghost use Rattle.cps_network.specs.Landable.{HoldsCandidates};
 ghost use Rattle.cps_network.specs.Lists.{AreWindows, IsAscending, most_in_a_stage};
 ghost use Rattle.cps_network.specs.Permits.{IsNextOf};
@@ -36,23 +36,15 @@ fn count_of(groups: &[Group]) -> usize {
         })
 }
 
-// Room for the windows that follow groups, and for their places where links are worth keeping.
-fn room_for<const W: usize>(
-    alloc: Global,
-    problem: &Problem,
-    groups: &[Group],
-) -> Result<Gathered<W>, AllocError>
-    ensures { IfOk result (λ g. g.windows.items ≡ []) }
+// Room for the windows that follow groups, and for their places.
+fn room_for<const W: usize>(alloc: Global, groups: &[Group]) -> Result<Gathered<W>, AllocError>
+    ensures windows { IfOk result (λ g. g.windows.items ≡ []) }
+    ensures places { IfOk result (λ g. g.places.items ≡ []) }
 {
     let count = count_of(groups);
-    let are_linked = are_worth_links(problem, count);
     let windows = Vec::with_capacity(alloc, count)?;
-    let places = Vec::with_capacity(alloc, if are_linked { count } else { 0 })?;
-    Ok(Gathered {
-        windows,
-        places,
-        are_linked,
-    })
+    let places = Vec::with_capacity(alloc, count)?;
+    Ok(Gathered { windows, places })
 }
 
 // The windows that extend those of a stage by a permitted rank, in ascending order.
@@ -72,11 +64,12 @@ fn next_windows<const W: usize>(
     ensures ascending { IfOk result (λ g. IsAscending g.windows.items) }
     ensures exact { IfOk result (λ g. IsNextOf problem.now stage before.now g.windows.items) }
     ensures valid { IfOk result (λ g. AreWindows W g.windows.items) }
+    ensures places { IfOk result (λ g. HavePlaces before.now groups.now g.windows.items g.places.items) }
 {
     // k is at most 3.
     let _near = problem.head();
     window_laws::<W>();
-    let mut gathered = room_for(alloc, problem, groups)?;
+    let mut gathered = room_for(alloc, groups)?;
     gather(before, groups, &mut gathered)?;
     Ok(gathered)
 }
@@ -101,9 +94,28 @@ fn made_after<const W: usize>(
     Ok(made)
 }
 
-// The stage of the windows that were gathered, with links from those of the stage before where these are wanted.
+// A stage with links from the windows of the stage before, by these groups and the places of its windows.
+fn linked<const W: usize>(
+    alloc: Global,
+    before: &Stage<W>,
+    groups: &[Group],
+    stage: Stage<W>,
+    places: Vec<u32>,
+) -> Result<Stage<W>, AllocError>
+    requires groups { AreRanges before.now.1 groups.now }
+    requires places { HavePlaces before.now.1 groups.now stage.1 places.items }
+    ensures { IfOk result (λ s. s ≡ stage.entry) }
+{
+    let ranges = ranges_of(alloc, groups)?;
+    let links = Links::of(before, &stage, ranges, places)?;
+    let linked = stage.with_links(alloc, links)?;
+    Ok(linked)
+}
+
+// The stage of the windows that were gathered, with links from those of the stage before where these are worth keeping.
 fn stage_of<const W: usize>(
     alloc: Global,
+    problem: &Problem,
     before: &Stage<W>,
     groups: &[Group],
     gathered: Gathered<W>,
@@ -113,15 +125,14 @@ fn stage_of<const W: usize>(
     requires groups { AreRanges before.now.1 groups.now }
     requires ascending { IsAscending gathered.windows.items }
     requires valid { AreWindows W gathered.windows.items }
+    requires places { HavePlaces before.now.1 groups.now gathered.windows.items gathered.places.items }
     ensures { IfOk result (λ s. s ≡ (before.now.0 + 1, gathered.entry.windows.items)) }
 {
     let made = made_after(alloc, before, gathered.windows)?;
-    if !gathered.are_linked {
+    if !are_worth_links(problem, made.len()) {
         return Ok(made);
     }
-    let ranges = ranges_of(alloc, groups)?;
-    let links = Links::checked(before, &made, ranges, gathered.places)?;
-    let stage = made.with_links(alloc, links)?;
+    let stage = linked(alloc, before, groups, made, gathered.places)?;
     Ok(stage)
 }
 
@@ -145,6 +156,6 @@ pub fn next_stage<const W: usize>(
     let earlier = before.windows();
     let groups = groups_in_order(alloc, problem, before.number(), earlier)?;
     let gathered = next_windows(alloc, problem, before.number(), earlier, &groups)?;
-    let stage = stage_of(alloc, before, &groups, gathered)?;
+    let stage = stage_of(alloc, problem, before, &groups, gathered)?;
     Ok(stage)
 }

@@ -93,26 +93,16 @@ impl<const W: usize> Stage<W> {
     }
 
     // The same stage, with these links.
-    pub(crate) fn with_links(
-        self,
-        alloc: Global,
-        links: Option<Links<W>>,
-    ) -> Result<Stage<W>, AllocError>
-        requires { IfSome links (λ l. l.target ≡ self.1) }
+    pub(crate) fn with_links(self, alloc: Global, links: Links<W>) -> Result<Stage<W>, AllocError>
+        requires { links.target ≡ self.1 }
         ensures { IfOk result (λ s. s ≡ self.entry) }
     {
-        let kept = match links {
-            None => None,
-            Some(links) => {
-                let kept = Arc::new(alloc, links)?;
-                Some(kept)
-            }
-        };
+        let links = Arc::new(alloc, links)?;
         Ok(Stage {
             number: self.number,
             whole: self.whole,
             left: self.left,
-            links: kept,
+            links: Some(links),
         })
     }
 

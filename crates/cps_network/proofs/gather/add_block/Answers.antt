@@ -9,6 +9,7 @@ loop-j-init g c = record {
   grown = grown_none (λ j x. FollowBelow g.row.W c.args.before.now c.args.groups.now c.args.block.0
       c.args.block.1 j x) _ _ _ (omega arith);
   ascending = c.requires.ascending;
+  places = c.requires.places;
 }
 
 pub add_by-requires : goal.add_by-requires
@@ -27,6 +28,7 @@ loop-j-preserved g c = record {
   grown = grown_one (λ j x. FollowBelow g.row.W c.args.before.now c.args.groups.now c.args.block.0
       c.args.block.1 j x) _ _ _ _ _ (omega arith) c.loop-j.invariant.grown c.in_ok-add_by.ensures.members;
   ascending = c.in_ok-add_by.ensures.ascending;
+  places = c.in_ok-add_by.ensures.places;
 }
 
 pub returns-clause-members : goal.returns-clause-members

@@ -1,4 +1,4 @@
-use Rattle.std.proofs.Common.{arith, rules, inl, inr}
+use Rattle.std.proofs.Common.{arith, rules, inl, inr, refl}
 use Rattle.cps_network.specs.Extended.{StandBefore, FollowsBy, group_at}
 use Rattle.cps_network.proofs.GatherLemmas.{grown_none, grown_one, grown_upto}
 use Rattle.cps_network.proofs.NextOrder.{later_group}
@@ -9,6 +9,7 @@ loop-place-init g c = record {
   grown = grown_none (λ i x. FollowsBy g.row.W c.args.before.now (group_at c.args.groups.now i) c.args.j x)
       _ _ _ (omega arith);
   ascending = c.requires.ascending;
+  places = c.requires.places;
 }
 
 pub add_next-requires : goal.add_next-requires
@@ -26,6 +27,7 @@ loop-place-preserved g c = record {
   grown = grown_one (λ i x. FollowsBy g.row.W c.args.before.now (group_at c.args.groups.now i) c.args.j x)
       _ _ _ _ _ (omega arith) c.loop-place.invariant.grown c.in_ok-add_next.ensures.members;
   ascending = c.in_ok-add_next.ensures.ascending;
+  places = c.in_ok-add_next.ensures.places c.args.groups.now (omega arith) refl c.loop-place.invariant.places;
 }
 
 pub returns-clause-members : goal.returns-clause-members

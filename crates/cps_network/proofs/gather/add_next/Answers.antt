@@ -4,9 +4,12 @@ use lib.Signed.{mag}
 use Rattle.std.proofs.lemmas.Int.{ints}
 use Rattle.std.proofs.lemmas.List.{get_or_default}
 use Rattle.cps_nodes.specs.Windows.{Accepts, shifted}
+use Rattle.cps_nodes.specs.Leads.{Extends}
+use Rattle.cps_network.specs.declared.groups.Group.{Group}
 use Rattle.cps_network.specs.Extended.{offset_of}
 use Rattle.cps_network.specs.Lists.{node_at}
 use Rattle.cps_network.proofs.GatherLemmas.{one_follows}
+use Rattle.cps_network.proofs.LinkLemmas.{extends_by, places_on}
 use Rattle.cps_network.proofs.ListLemmas.{ascends_on}
 use Rattle.cps_network.proofs.gather.add_next.Goals as goal
 
@@ -49,9 +52,17 @@ pub returns-clause-ascending : goal.returns-clause-ascending
 returns-clause-ascending g c =
     ascends_on _ _ _ c.requires.ascending
     (λ x has. c.requires.before x _ has (record { offset = c.has.ensures.0 c.if-not-has.false; is = next_is g c }))
-    c.in_ok-push.ensures
+    c.in_ok-push.ensures.windows
 
 pub returns-clause-members : goal.returns-clause-members
 returns-clause-members g c =
     one_follows g.row.W c.args.before.now _ _ _ _ _ (c.has.ensures.0 c.if-not-has.false) (next_is g c)
-    c.in_ok-push.ensures
+    c.in_ok-push.ensures.windows
+
+pub returns-clause-places : goal.returns-clause-places
+returns-clause-places g c = λ groups few same have.
+    let leads = extends_by g.row.W c.args.j c.args.before.now c.args.group c.after-next.result c.requires.width
+    c.requires.bit c.requires.valid c.requires.group (c.has.ensures.0 c.if-not-has.false) (next_is g c) in
+    places_on c.args.before.now groups _ _ _ _ c.after-next.result c.args.place few
+    (subst (λ (h : Group). Extends (node_at c.args.before.now h.from) c.after-next.result) (sym same) leads)
+    c.in_ok-push.ensures.windows c.in_ok-push.ensures.places have

@@ -36,6 +36,7 @@ loop-from-preserved g c = record {
       (omega arith) c.loop-from.invariant.grown c.in_ok-add_block.ensures.members;
   within = omega arith;
   ascending = c.in_ok-add_block.ensures.ascending;
+  places = c.in_ok-add_block.ensures.places;
   past = λ i lt few.
       let rises = c.requires.order.rising c.loop-from.from c.end_of_block-to.result (omega arith) few in
       let ends = c.end_of_block-to.ensures.ends few in

@@ -1,5 +1,5 @@
 use Rattle.std.proofs.Common.{ℕ, ◌-◌, ◌<◌, ◌≤◌, length}
-use Rattle.cps_network.specs.Extended.{Follows, HasGrownBy, group_at}
+use Rattle.cps_network.specs.Extended.{Follows, HasGrownBy, HavePlaces, group_at}
 use Rattle.cps_network.specs.Lists.{IsAscending}
 use Rattle.cps_network.proofs.gather.gather.Given as goal
 
@@ -9,6 +9,7 @@ invariant-loop-from g l = record {
       l.gathered.windows.items;
   within : l.from ≤ length l.groups;
   ascending : IsAscending l.gathered.windows.items;
+  places : HavePlaces l.before l.groups l.gathered.windows.items l.gathered.places.items;
   past : (i : ℕ) → i < l.from → l.from < length l.groups
       → (group_at l.groups i).order < (group_at l.groups l.from).order;
 }
