@@ -4,9 +4,16 @@ use Rattle.std.proofs.Common.{eqb, List, [], ◌∷◌, length, refl, sym, ap, a
 use Rattle.std.proofs.lemmas.Grind.{common_steps}
 use Rattle.std.specs.Prelude.{◌↔◌, ◌⊎◌, max, bit_or}
 use Rattle.std.specs.Int.{bit_at, reverse_bits, reverse_bits_onto, w8}
-use Rattle.std.proofs.lemmas.Nat.{one_shl, shl_whole, pow_pos, div-mul-add}
-use Rattle.std.proofs.lemmas.Nat.Bits.{bit_at_or, bit_at_ones, bit_at_ones_above, bit_at-suc}
+use Rattle.std.proofs.Common.{inl, inr, mod-lt, shr-shr}
+use Rattle.std.specs.Prelude.{nat_le, nat_eq, ◌||◌}
+use Rattle.std.proofs.lemmas.Bool.{cases_lt}
+use Rattle.std.proofs.lemmas.Bool.Decides.{nat_tests}
+use Rattle.std.proofs.lemmas.Nat.{field_of, one_shl, pow_pos, div-mul-add}
+use Rattle.std.proofs.lemmas.Nat.Bits.{bit_at_above, bit_at_or, bit_at_ones, bit_at_ones_above, bit_at-lt, bit_at-suc}
+use Rattle.std.proofs.Math.Pow.{mod-mod-pow}
 use Rattle.cps_base.specs.Limits.{greatest_k}
+use Rattle.cps_theory.specs.Patterns.{tests_from}
+use Rattle.cert_check.specs.PlacedBits.{digits_of, is_marked}
 use Rattle.precedence.specs.Pairs.{HasBit}
 use Rattle.std.specs.Ordering.{bool_cmp}
 use Rattle.std.specs.declared.cmp.Ordering.TheVariants.{Less, Equal}
@@ -215,11 +222,78 @@ shifted_bit a zero y le = search rules
 shifted_bit a (suc k) zero le = omega arith
 shifted_bit a (suc k) (suc y) le = search (rules, bit_at-suc, double_at, shifted_bit a k y (omega (arith, le)))
 
-pub marks_bits : (k placed : ℕ) → k ≤ greatest_k → placed < 2 ^ 64 → (y : ℕ)
-    → HasBit (bit_or (placed * 2 ^ k % 340282366920938463463374607431768211456)
-    (1 * 2 ^ (k + 1) % 340282366920938463463374607431768211456 - 1)) y ↔ ((y ≤ k) ⊎ ((k < y) × HasBit placed (y - k)))
-marks_bits k placed near fits y =
-    let bit = bit_at_or (placed * 2 ^ k % 340282366920938463463374607431768211456)
-    (1 * 2 ^ (k + 1) % 340282366920938463463374607431768211456 - 1) y
-    ∙ ap₂ (λ (a b : ℕ). max (bit_at a y) (bit_at (b - 1) y)) (shl_whole placed 64 k 128 fits (omega (arith, near)))
-    (one_shl (k + 1) 128 (omega (arith, near))) in search (rules, bit_at_ones_above, shifted_bit, bit_at_ones)
+kept_below : (n more i : ℕ) → bit_at (n % 2 ^ (more + 1 + i)) i ≡ bit_at n i
+kept_below n more i = grind (arith, field_of, mod-mod-pow)
+
+-- a bit below a cut is kept
+kept_bit : (n cut i : ℕ) → i < cut → bit_at (n % 2 ^ cut) i ≡ bit_at n i
+kept_bit n cut i low =
+    let far : cut ≡ cut - 1 - i + 1 + i = omega arith in
+    ap (λ (e : ℕ). bit_at (n % 2 ^ e) i) far ∙ kept_below n (cut - 1 - i) i
+
+-- and the others are not set
+low_bit : (n cut i : ℕ) → HasBit (n % 2 ^ cut) i ↔ ((i < cut) × HasBit n i)
+low_bit n cut i = elim (cases_lt i cut) [
+  | inl low ↦ let same = kept_bit n cut i low in grind arith
+  | inr above ↦
+      let none : bit_at (n % 2 ^ cut) i ≡ 0 = bit_at_above (n % 2 ^ cut) cut i (mod-lt n (pow_pos cut)) above in
+      (λ has. absurd (omega (arith, has, none)), λ h. absurd (omega (arith, h.0, above)))
+]
+
+pub marks_bits : (k placed : ℕ) → k ≤ greatest_k → (y : ℕ)
+    → HasBit (bit_or (placed * 2 ^ k % 2 ^ 64) (1 * 2 ^ (k + 1) % 2 ^ 64 - 1)) y
+    ↔ ((y ≤ k) ⊎ ((k < y) × (y < 64) × HasBit placed (y - k)))
+marks_bits k placed near y =
+    let bit = bit_at_or (placed * 2 ^ k % 2 ^ 64) (1 * 2 ^ (k + 1) % 2 ^ 64 - 1) y
+    ∙ ap (λ (b : ℕ). max (bit_at (placed * 2 ^ k % 2 ^ 64) y) (bit_at (b - 1) y))
+    (one_shl (k + 1) 64 (omega (arith, near))) in
+    elim (cases_lt k y) [
+      | inl above ↦
+          let zero : bit_at (2 ^ (k + 1) - 1) y ≡ 0 = bit_at_ones_above (k + 1) y (omega (arith, above)) in
+          let up : bit_at (placed * 2 ^ k) y ≡ bit_at placed (y - k) = shifted_bit placed k y (omega (arith, above)) in
+          let low = low_bit (placed * 2 ^ k) 64 y in grind arith
+      | inr below ↦
+          let one : bit_at (2 ^ (k + 1) - 1) y ≡ 1 = bit_at_ones (k + 1) y (omega (arith, below)) in
+          let two = bit_at-lt (placed * 2 ^ k % 2 ^ 64) y in
+          (λ _. inl below, λ _. omega (arith, bit, one, two))
+    ]
+
+-- ---- the digits of a stage
+
+tests_same : (s t : ℕ → Bool) (y m : ℕ) → ((z : ℕ) → y ≤ z → z < y + m → s z ≡ t z) → tests_from s y m ≡ tests_from t y m
+tests_same s t y zero same = refl
+tests_same s t y (suc m) same = ap₂ (λ (b : Bool) (bs : List Bool). b ∷ bs) (same y (omega arith) (omega arith))
+    (tests_same s t (suc y) m (λ z from to. same z (omega (arith, from)) (omega (arith, to))))
+
+-- the bits from 64 - k on are not looked at at a stage below k
+pub digits_low : (k stage placed : ℕ) → k ≤ greatest_k → stage < k
+    → digits_of k stage (placed % 2 ^ (64 - k)) ≡ digits_of k stage placed
+digits_low k stage placed near early = tests_same (is_marked k (placed % 2 ^ (64 - k))) (is_marked k placed) (suc stage)
+    (2 * k) (λ y from to. ap (λ (b : ℕ). nat_le y k || nat_eq b 1)
+    (kept_bit placed (64 - k) (y - k) (omega (arith, near, early, to))))
+
+-- and from stage k on they are the bits from one place on
+pub tests_high : (k placed y m : ℕ) → k < y → tests_from (is_marked k placed) y m ≡ bits m (placed / 2 ^ (y - k))
+tests_high k placed y zero above = refl
+tests_high k placed y (suc m) above =
+    let none : nat_le y k ≡ false = grind (arith, nat_tests) in
+    let up : placed / 2 ^ (suc y - k) ≡ placed / 2 ^ (y - k) / 2 =
+    ap (λ (e : ℕ). placed / 2 ^ e) (omega (arith, above)) ∙ sym (shr-shr placed (y - k) 1) in
+    ap₂ (λ (b : Bool) (bs : List Bool). b ∷ bs) (ap (λ (b : Bool). b || nat_eq (bit_at placed (y - k)) 1) none)
+    (tests_high k placed (suc y) m (omega (arith, above)) ∙ ap (bits m) up)
+
+-- and so the marks of the others give the digits
+pub marks_cut : (k placed marks : ℕ) → k ≤ greatest_k
+    → ((y : ℕ) → HasBit marks y ↔ ((y ≤ k) ⊎ ((k < y) × (y < 64) × HasBit placed (y - k))))
+    → (y : ℕ) → HasBit marks y ↔ ((y ≤ k) ⊎ ((k < y) × HasBit (placed % 2 ^ (64 - k)) (y - k)))
+marks_cut k placed marks near are y =
+    let low = low_bit placed (64 - k) (y - k) in (
+      λ has. elim ((are y).0 has) [
+        | inl first ↦ inl first
+        | inr h ↦ inr (h.0, low.1 (omega (arith, h.0, h.1, near), h.2))
+      ],
+      λ is. (are y).1 (elim is [
+        | inl first ↦ inl first
+        | inr h ↦ let l = low.0 h.1 in inr (h.0, omega (arith, l.0, h.0, near), l.1)
+      ]),
+    )

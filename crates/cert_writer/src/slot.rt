@@ -1,8 +1,7 @@
 //! Slots: where the pairs of a node of a stage are put together, and in which order the nodes of a stage stand.
 
-ghost use Rattle.std.specs.Prelude.{◌≡◌, ℕ, ◌+◌, ◌-◌, ◌*◌, ◌/◌, ◌^◌, ◌<◌, ◌≤◌, ◌⊎◌, ◌↔◌};
+ghost use Rattle.std.specs.Prelude.{◌≡◌, ◌+◌, ◌*◌, ◌^◌, ◌<◌, ◌≤◌};
 ghost use Rattle.cps_base.specs.Limits.{greatest_k, most_waiting};
-ghost use Rattle.precedence.specs.Pairs.{HasBit};
 ghost use Rattle.cert_check.specs.PlacedBits.{digits_of};
 ghost use Rattle.certificate.specs.Patterns.{bits, number_of};
 ghost use Rattle.cert_writer.specs.Slots.{HasSlot};
@@ -10,12 +9,20 @@ ghost use Rattle.cert_writer.specs.Slots.{HasSlot};
 use cert_check::patterns_are_bits;
 use cps_network::Node;
 
-// The ranks that are placed, those below 1 among them, as bits: bit y is that of rank y - k.
-fn marks_of(k: u8, placed: u64) -> u128
-    requires { k ≤ greatest_k }
-    ensures { (y : ℕ) → HasBit result y ↔ ((y ≤ k) ⊎ ((k < y) × HasBit placed (y - k))) }
+// The digits of a stage, as bits, digit 1 the lowest: the ranks from stage + 1 - k to stage + k that are placed, and those
+// below 1.
+fn marks_of(k: u8, stage: u8, placed: u64) -> u64
+    requires near { k ≤ greatest_k }
+    requires stage { stage ≤ most_waiting }
+    ensures { digits_of k stage placed ≡ bits (2 * k) result }
 {
-    ((placed as u128) << k) | ((1 << (k + 1)) - 1)
+    patterns_are_bits();
+    if stage < k {
+        // Bit y is that of rank y - k.
+        ((placed << k) | ((1 << (k + 1)) - 1)) >> (stage + 1)
+    } else {
+        placed >> (stage + 1 - k)
+    }
 }
 
 // The slot of a node of a stage.
@@ -25,8 +32,7 @@ pub(crate) fn slot_of(k: u8, stage: u8, node: Node) -> usize
     requires last { (stage ≤ node.last + k) × (node.last ≤ stage + k) }
     ensures { HasSlot k (stage, digits_of k stage node.placed, node.last) result }
 {
-    patterns_are_bits();
-    let ones = (marks_of(k, node.placed) >> (stage + 1)) % (1 << (2 * k));
+    let ones = marks_of(k, stage, node.placed) % (1 << (2 * k));
     ones as usize * 8 + (node.last + k - stage) as usize
 }
 
