@@ -10,6 +10,7 @@ from tools.desk.model import Aerodrome, Flight, Plan
 from tools.desk.refusals import refused
 
 INPUT = "-"
+PLAN_HELP = "a plan's file, or - for the input; none: that of `cps first`"
 
 
 @dataclass(frozen=True)

@@ -13,22 +13,23 @@ from tools.desk.moments import Moment, moments_of
 from tools.desk.refusals import refused
 from tools.desk.replay_words import csv_rows, line
 
-DESCRIPTION = """Prints for each event of a log what happened: its number, record and row, the clock, whether it was accepted or
-why not, what froze, and who moved since the plan before, by how many seconds and places among the flights of both plans.
-FOLDER/NNNN gets the aerodrome, flight and plan files of the moment after event NNNN, the opening being 0000; a refused event
-changes nothing and gets none. `audit` judges each, and `plan` must give its value."""
+DESCRIPTION = """Prints for each event of a log what happened: its number, record and row, the clock, whether it was
+accepted or why not, what froze, and who moved since the plan before, by how many seconds and places among the flights
+of both plans. FOLDER/NNNN gets the aerodrome, flight and plan files of the moment after event NNNN, the opening being
+0000; a refused event changes nothing and gets none. `audit` judges each, and `plan` must give its value."""
 
 
 def add_parser(subparsers: argparse._SubParsersAction) -> None:
     """The words of the command."""
-    words = subparsers.add_parser("replay", help="a log event by event: who moved, and the files of each moment", description=DESCRIPTION)
+    said = "a log event by event: who moved, and the files of each moment"
+    words = subparsers.add_parser("replay", help=said, description=DESCRIPTION)
     words.add_argument("aerodrome", metavar="AERODROME")
     words.add_argument("flights", metavar="FLIGHTS")
     words.add_argument("events", metavar="EVENTS")
     words.add_argument("folder", metavar="FOLDER", type=Path, help="a new or empty folder")
     words.add_argument("--moments", type=numbers, help="write and judge these alone, as 0,5,8-12; refused events too")
     words.add_argument("--csv", action="store_true", help="also FOLDER/replay.csv: a row for each event and flight")
-    words.add_argument("--html", action="store_true", help="also FOLDER/replay.html: a page with the picture of each moment")
+    words.add_argument("--html", action="store_true", help="also FOLDER/replay.html: a page with all pictures")
     words.add_argument("--force", action="store_true", help="write over what stands in FOLDER")
     words.set_defaults(run=run)
 
@@ -106,5 +107,6 @@ def _verdict(moments: Sequence[Moment], findings: dict[int, list[str]]) -> int:
     for number, found in wrong.items():
         print(f"event {number}: found in its files: {'; '.join(found)}")
     clean = len(findings) - len(wrong)
-    print(f"{counted(clean, 'moment')} of {len(findings)} judged right: audit finds nothing, and plan gives the value of the replay")
+    right = "judged right: audit finds nothing, and plan gives the value of the replay"
+    print(f"{counted(clean, 'moment')} of {len(findings)} {right}")
     return FINDINGS if wrong or moments[-1].plan is None else GOOD

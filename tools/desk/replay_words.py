@@ -75,7 +75,7 @@ def _move_words(move: Move) -> str:
 
 
 def csv_rows(moments: Iterable[Moment]) -> Iterator[list]:
-    """A row for each event and each flight that is active after it. Times are seconds after midnight; what is not is empty."""
+    """A row for each event and each flight that is active after it. Times are seconds; what is not there is empty."""
     yield COLUMNS
     for moment in moments:
         yield from _rows(moment)

@@ -1,4 +1,4 @@
-"""`desk why`: which single relaxations make an infeasible bank feasible, and which flights cannot be landed together."""
+"""`desk why`: what single relaxation makes an infeasible bank feasible, and which flights cannot land together."""
 
 import argparse
 import sys
@@ -16,11 +16,11 @@ from tools.desk.relaxations import Relaxation, conflict, relaxations, relaxed_pl
 from tools.desk.replay import replayed
 from tools.desk.replay_words import line, value_words
 
-DESCRIPTION = """Where no plan is feasible, relaxes one thing after another and plans again: k, each closure, each flight's
-windows (two hours from its estimate on), each precedence, each flight left out. Prints which of these make the bank feasible,
-the objective then, and the smallest group of flights from the front of the first-come order that cannot be landed. What
-concerns only flights that have no part in the conflict cannot help, and is not tried. With a log and an event's number it does so for the
-moment after that event, or says why the event was refused."""
+DESCRIPTION = """Where no plan is feasible, relaxes one thing after another and plans again: k, each closure, each
+flight's windows (two hours from its estimate on), each precedence, each flight left out. Prints which of these make the
+bank feasible, the objective then, and the smallest group of flights from the front of the first-come order that cannot
+be landed. What concerns only flights that have no part in the conflict cannot help, and is not tried. With a log and an
+event's number it does so for the moment after that event, or says why the event was refused."""
 
 
 def add_parser(subparsers: argparse._SubParsersAction) -> None:
@@ -30,7 +30,8 @@ def add_parser(subparsers: argparse._SubParsersAction) -> None:
     words.add_argument("flights", metavar="FLIGHTS")
     words.add_argument("events", metavar="EVENTS", nargs="?")
     words.add_argument("number", metavar="NUMBER", nargs="?", type=int, help="an event's number, 0 for the opening")
-    words.add_argument("--most-k", type=int, choices=range(MOST_SHIFT + 1), default=MOST_SHIFT, help="try k up to this alone")
+    shifts = range(MOST_SHIFT + 1)
+    words.add_argument("--most-k", type=int, choices=shifts, default=MOST_SHIFT, help="try k up to this alone")
     words.set_defaults(run=run)
 
 
@@ -43,7 +44,8 @@ def run(arguments: argparse.Namespace) -> int:
             raise Refused(["with a log stands the number of an event, 0 for the opening"])
         moments = replayed(arguments.aerodrome, arguments.flights, arguments.events)
         if not 0 <= arguments.number < len(moments):
-            raise Refused([f"{arguments.events}: there is no event {arguments.number}; the last is event {len(moments) - 1}"])
+            last = len(moments) - 1
+            raise Refused([f"{arguments.events}: there is no event {arguments.number}; the last is event {last}"])
         moment = moments[arguments.number]
         print(line(moment))
         if not moment.accepted:

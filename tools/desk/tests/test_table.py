@@ -59,7 +59,8 @@ def flight(callsign: str, eta: int, category: str = "A", length: int = 1_800, **
 
 def aerodrome(**changed) -> Aerodrome:
     """An aerodrome with a table whose columns differ."""
-    return Aerodrome(**{"version": 2, "k": 0, "freeze": 100, "objective": Objective.MAKESPAN, "table": TABLE, **changed})
+    usual = {"version": 2, "k": 0, "freeze": 100, "objective": Objective.MAKESPAN, "table": TABLE}
+    return Aerodrome(**{**usual, **changed})
 
 
 class Rows(unittest.TestCase):
@@ -67,11 +68,17 @@ class Rows(unittest.TestCase):
 
     def test_frozen_flights_do_not_move_and_others_follow(self) -> None:
         flights = [flight("AA1", 1_000), flight("BB1", 1_010, "B"), flight("AA2", 1_020), flight("CC1", 1_030)]
-        shown = Plan(Objective.MAKESPAN, 1_300, (Landing("AA2", 1_050, True), Landing("BB1", 1_120), Landing("AA1", 1_300)))
+        landings = (Landing("AA2", 1_050, True), Landing("BB1", 1_120), Landing("AA1", 1_300))
+        shown = Plan(Objective.MAKESPAN, 1_300, landings)
         rows = landed(aerodrome(clock=1_000, frozen=(Frozen("AA2", 1_050),)), flights, shown)
         self.assertEqual(
             [(it.callsign, it.moved, it.behind, it.owed, it.delay) for it in rows],
-            [("AA2", None, None, None, 30), ("BB1", -1, 70, 70, 110), ("AA1", 1, 180, 60, 300), ("CC1", None, None, None, None)],
+            [
+                ("AA2", None, None, None, 30),
+                ("BB1", -1, 70, 70, 110),
+                ("AA1", 1, 180, 60, 300),
+                ("CC1", None, None, None, None),
+            ],
         )
 
     def test_a_flight_that_is_not_there(self) -> None:
