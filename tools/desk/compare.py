@@ -6,10 +6,10 @@ from collections.abc import Iterator, Sequence
 
 from tools.desk import clock, files
 from tools.desk.columns import aligned, write_csv
-from tools.desk.faults import FINDINGS, GOOD
+from tools.desk.faults import FINDINGS, GOOD, Refused
 from tools.desk.landed import Sum, sums
 from tools.desk.model import Flight, in_turn
-from tools.desk.planned import Planned, planned
+from tools.desk.planned import INPUT, PLAN_HELP, Planned, planned
 from tools.desk.replay_words import value_words
 from tools.desk.table import signed
 
@@ -30,7 +30,7 @@ def add_parser(subparsers: argparse._SubParsersAction) -> None:
     words = subparsers.add_parser("compare", help=said, description=DESCRIPTION)
     words.add_argument("aerodrome", metavar="AERODROME")
     words.add_argument("flights", metavar="FLIGHTS")
-    words.add_argument("plan", metavar="PLAN", nargs="?", help="none: that of `cps first`")
+    words.add_argument("plan", metavar="PLAN", nargs="?", help=PLAN_HELP)
     words.add_argument("--aerodrome", dest="aerodrome_then", metavar="FILE", help="the aerodrome of the second side")
     words.add_argument("--flights", dest="flights_then", metavar="FILE", help="the flights of the second side")
     words.add_argument("--plan", dest="plan_then", metavar="FILE", help="the plan of the second side")
@@ -41,6 +41,8 @@ def add_parser(subparsers: argparse._SubParsersAction) -> None:
 
 def run(arguments: argparse.Namespace) -> int:
     """Runs the command."""
+    if arguments.plan == arguments.plan_then == INPUT:
+        raise Refused(["one plan alone can come from the input"])
     first = planned(arguments.aerodrome, arguments.flights, arguments.plan)
     flights_then = arguments.flights_then or arguments.flights
     then = planned(arguments.aerodrome_then or arguments.aerodrome, flights_then, arguments.plan_then)

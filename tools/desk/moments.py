@@ -108,9 +108,17 @@ def _froze(before: Situation, now: Situation) -> tuple[Landing, ...]:
 
 def moves_between(before: Plan, after: Plan) -> tuple[Move, ...]:
     """Who moved from one plan to another, in the landing order of the latter."""
-    old = {it.callsign: it.second for it in before.landings}
-    new = {it.callsign: it.second for it in after.landings}
+    start = _same(before.landings, after.landings)
+    old = {it.callsign: it.second for it in before.landings[start:]}
+    new = {it.callsign: it.second for it in after.landings[start:]}
     places = {callsign: place for place, callsign in enumerate(it for it in old if it in new)}
     both = [callsign for callsign in new if callsign in old]
     moves = (Move(it, new[it] - old[it], place - places[it]) for place, it in enumerate(both))
     return tuple(it for it in moves if it.seconds or it.places)
+
+
+def _same(before: Sequence[Landing], after: Sequence[Landing]) -> int:
+    """With how many equal landings both begin. These have not moved, and shift nobody's place."""
+    pairs = enumerate(zip(before, after))
+    differs = (at for at, (one, two) in pairs if (one.second, one.callsign) != (two.second, two.callsign))
+    return next(differs, min(len(before), len(after)))

@@ -30,7 +30,7 @@ def add_parser(subparsers: argparse._SubParsersAction) -> None:
     words.add_argument("--moments", type=numbers, help="write and judge these alone, as 0,5,8-12; refused events too")
     words.add_argument("--csv", action="store_true", help="also FOLDER/replay.csv: a row for each event and flight")
     words.add_argument("--html", action="store_true", help="also FOLDER/replay.html: a page with all pictures")
-    words.add_argument("--force", action="store_true", help="write over what stands in FOLDER")
+    words.add_argument("--force", action="store_true", help="replace the moments of an earlier replay in FOLDER")
     words.set_defaults(run=run)
 
 
@@ -53,8 +53,7 @@ def run(arguments: argparse.Namespace) -> int:
     for moment in moments:
         print(line(moment))
     arguments.folder.mkdir(parents=True, exist_ok=True)
-    for moment in chosen:
-        judging.write(arguments.folder, moment)
+    judging.clear(arguments.folder)
     sys.stdout.flush()
     findings = judging.judged(arguments.folder, chosen)
     if arguments.csv:
@@ -80,7 +79,7 @@ def _refuse_full(folder: Path, force: bool) -> None:
     if folder.exists() and not folder.is_dir():
         raise Refused([f"{folder}: is no folder"])
     if folder.is_dir() and any(folder.iterdir()) and not force:
-        raise Refused([f"{folder}: is not empty; name another folder, or write over what stands there with --force"])
+        raise Refused([f"{folder}: is not empty; name another folder, or replace an earlier replay there with --force"])
 
 
 def _chosen(moments: Sequence[Moment], asked: set[int] | None) -> list[Moment]:

@@ -113,7 +113,7 @@ class Third(Checks):
 
     def test_plans(self) -> None:
         for text, *said in [
-            (PLAN.replace("\n", "\r\n"), "row 1", "11 lines end with CR LF"),
+            (PLAN.replace("\n", "\r\n"), "row 1", "11 of the lines end with CR LF"),
             ("\ufeff" + PLAN, "row 1", "no mark of byte order"),
             (PLAN[:-1], "row 11", "a line end behind the last line"),
             ("event 0 begun\n" + PLAN, 'row 1: "event 0 begun"', "`desk replay` writes the plan of each moment"),

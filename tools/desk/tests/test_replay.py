@@ -150,6 +150,14 @@ class Replays(unittest.TestCase):
         self.assertEqual((answer.status, answer.out), (3, ""))
         self.assertIn("is not empty", answer.err)
 
+    def test_an_earlier_replay_is_replaced(self) -> None:
+        self.folder.joinpath("mine").write_text("mine")
+        self.assertEqual(desk(["replay", *DAY, str(self.folder), "--csv", "--force"]).status, 0)
+        self.folder.joinpath("0008/mine.svg").write_text("mine")
+        self.assertEqual(desk(["replay", *DAY, str(self.folder), "--moments", "0", "--force"]).status, 0)
+        self.assertEqual(sorted(it.name for it in self.folder.iterdir()), ["0000", "0008", "mine"])
+        self.assertEqual([it.name for it in self.folder.joinpath("0008").iterdir()], ["mine.svg"])
+
     def test_what_the_program_refuses_has_its_row(self) -> None:
         log = self.folder / "log.csv"
         log.write_text(Path(DAY[2]).read_text() + "\n\nclock,F1,,900,,,\n")

@@ -1,8 +1,10 @@
 """Tables, comparisons, and why a bank is infeasible, against answers made by hand."""
 
 import csv
+import io
 import tempfile
 import unittest
+import unittest.mock
 from dataclasses import replace
 from pathlib import Path
 
@@ -117,6 +119,14 @@ class Commands(unittest.TestCase):
         answer = desk(["table", *BROKEN])
         self.assertEqual((answer.status, answer.err), (1, ""))
         self.assertEqual(answer.out, BROKEN_TABLE)
+
+    def test_a_plan_of_the_input(self) -> None:
+        with unittest.mock.patch("sys.stdin", io.TextIOWrapper(io.BytesIO(b"makespan x\nland A\n"))):
+            answer = desk(["table", *BROKEN[:2], "-"])
+        self.assertEqual((answer.status, answer.out), (3, ""))
+        places = [it.partition(":")[0] for it in answer.err.splitlines()]
+        self.assertEqual(places, ["the input, row 1", "the input, row 2"])
+        self.assertEqual(desk(["compare", *BROKEN[:2], "-", "--plan", "-"]).status, 3)
 
     def test_a_table_as_csv_by_first(self) -> None:
         answer = desk(["table", "--csv", *BROKEN[:2]])
