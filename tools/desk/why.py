@@ -2,6 +2,7 @@
 
 import argparse
 import sys
+import textwrap
 from collections import Counter
 
 from tools.desk import files, program
@@ -16,6 +17,7 @@ from tools.desk.relaxations import Relaxation, conflict, relaxations, relaxed_pl
 from tools.desk.replay import replayed
 from tools.desk.replay_words import line, value_words
 
+MOST_WIDE = 100  # a list of callsigns goes on in the next line
 DESCRIPTION = """Where no plan is feasible, relaxes one thing after another and plans again: k, each closure, each
 flight's windows (two hours from its estimate on), each precedence, each flight left out. Prints which of these make the
 bank feasible, the objective then, and the smallest group of flights from the front of the first-come order that cannot
@@ -74,10 +76,10 @@ def _explain(now: Situation, most_shift: int) -> None:
     found = conflict(now)
     count = len(found.front)
     print(f"from the front of the first-come order {counted(count, 'flight')} cannot be landed, {count - 1} can:")
-    print("  " + " ".join(found.front))
+    print(_listed(found.front))
     if found.core != found.front:
         print(f"of these the last {counted(len(found.core), 'flight')} alone cannot be landed either:")
-        print("  " + " ".join(found.core))
+        print(_listed(found.core))
     sys.stdout.flush()
     core = set(found.core)
     tried = relaxations(now, core, most_shift)
@@ -85,6 +87,10 @@ def _explain(now: Situation, most_shift: int) -> None:
     helpful = [(it, plan) for it, plan in zip(tried, plans) if plan]
     print("\n".join(_helpful(helpful)))
     print(_tried(tried, {it for it, plan in helpful}))
+
+
+def _listed(callsigns: list[str]) -> str:
+    return textwrap.fill(" ".join(callsigns), MOST_WIDE, initial_indent="  ", subsequent_indent="  ")
 
 
 def _helpful(helpful: list[tuple[Relaxation, Plan]]) -> list[str]:

@@ -101,7 +101,7 @@ class Third(Checks):
 
     def test_logs(self) -> None:
         for row, cause, *said in [
-            ("clock,37500,,,,,", "callsign not-empty", "row 2, callsign", "nothing here; the kind clock has eta alone"),
+            ("clock,37500,,,,,", "callsign not-empty", "row 2, callsign", "nothing here", "is it meant for eta?"),
             ("estimate,UAE7,,37800,,,", "windows none", "row 2, windows", "one to 4 windows"),
             ("estimate,UAE7,A,37800,,1-2,", "category not-empty", "row 2, category", "nothing here"),
             ("closure,,,,,1-2,", "kind", "row 2, kind", "write close"),

@@ -197,7 +197,7 @@ class Command(unittest.TestCase):
             windows.write_bytes((bank / "output").read_bytes().replace(b"\n", b"\r\n"))
             for flights, landed, said in (
                 (bad, bank / "output", f"{bad}, row 4: category"),
-                (missing, bank / "output", f"{missing}: cannot be read"),
+                (missing, bank / "output", f"{missing}: cannot be read: No such file or directory"),
                 (bank / "flights.csv", windows, f"{windows}, row 1: wanted: lines that end with LF alone"),
             ):
                 answer = desk(["picture", str(bank / "aerodrome.toml"), str(flights), str(landed)])
