@@ -37,7 +37,8 @@ def want(what, found, wanted):
 
 def steps_by_keys(browser, last):
     """The keys, and a click."""
-    for keys, number in (('ArrowDown', 1), ('j', 2), ('ArrowUp k', 0), ('k', 0), ('End', last), ('j', last), ('Home', 0)):
+    down, up = [('ArrowDown', 1), ('j', 2)], [('ArrowUp k', 0), ('k', 0)]
+    for keys, number in [*down, *up, ('End', last), ('j', last), ('Home', 0)]:
         browser.press(*keys.split())
         want(f'the keys {keys}', browser.run(NUMBER), number)
     browser.click(f'#events li:nth-child({last}) a')

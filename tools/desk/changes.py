@@ -64,7 +64,8 @@ def _clocked(now: Situation, second: int, plan: Plan | None) -> Aerodrome:
     aerodrome = now.aerodrome
     known = {it.callsign for it in aerodrome.frozen}
     landings = plan.landings if plan else ()
-    new = {it.callsign: it.second for it in landings if it.callsign not in known and it.second < second + aerodrome.freeze}
+    soon = (it for it in landings if it.second < second + aerodrome.freeze)
+    new = {it.callsign: it.second for it in soon if it.callsign not in known}
     frozen = aerodrome.frozen + tuple(Frozen(*it) for it in new.items())
     return replace(aerodrome, clock=second, frozen=frozen, passed=_counts(now, new))
 
@@ -72,8 +73,8 @@ def _clocked(now: Situation, second: int, plan: Plan | None) -> Aerodrome:
 def _counts(now: Situation, new: Mapping[str, int]) -> tuple[Passed, ...]:
     """The counts when these freeze.
 
-    With the carry each flight that still waits was passed by those of them that stood behind it in first-come order, before the
-    event. No count is above k, and a count of 0 is not written.
+    With the carry each flight that still waits was passed by those of them that stood behind it in first-come order,
+    before the event. No count is above k, and a count of 0 is not written.
     """
     aerodrome = now.aerodrome
     if not aerodrome.carries:

@@ -1,5 +1,6 @@
 """Seconds after midnight of the first day, and clock times: 10:30, 10:30:20, and +1 00:10:00 for the second day."""
 
+import functools
 import re
 
 MINUTE = 60
@@ -13,6 +14,7 @@ _TIME = re.compile(
 )
 
 
+@functools.lru_cache(8_192)
 def shown(second: int) -> str:
     """A second as a clock time. From the second day on the day stands before it."""
     day, rest = divmod(second, DAY)

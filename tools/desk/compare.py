@@ -6,16 +6,17 @@ from collections.abc import Iterator, Sequence
 
 from tools.desk import clock, files
 from tools.desk.columns import aligned, write_csv
-from tools.desk.faults import FINDINGS, GOOD
+from tools.desk.faults import FINDINGS, GOOD, Refused
 from tools.desk.landed import Sum, sums
 from tools.desk.model import Flight, in_turn
-from tools.desk.planned import Planned, planned
+from tools.desk.planned import INPUT, PLAN_HELP, Planned, planned
 from tools.desk.replay_words import value_words
 from tools.desk.table import signed
 
-DESCRIPTION = """Sets two plans side by side: that of AERODROME, FLIGHTS and PLAN, and that of the files which the options name
-in their place. A delay is counted from the due times of one flight file: FLIGHTS, or that of --due. The objective counts from
-each side's own estimates, so that a late estimate lowers it; where they differ from the due times, a line says so."""
+DESCRIPTION = """Sets two plans side by side: that of AERODROME, FLIGHTS and PLAN, and that of the files which the
+options name in their place. A delay is counted from the due times of one flight file: FLIGHTS, or that of --due. The
+objective counts from each side's own estimates, so that a late estimate lowers it; where they differ from the due
+times, a line says so."""
 HEAD = ["flight", "cat", "due", "lands", "delay", "then lands", "delay", "difference"]
 SUMS = ["airline", "flights", "delay", "then", "difference", "weighted", "then", "difference"]
 CSV_HEAD = [
@@ -25,13 +26,14 @@ CSV_HEAD = [
 
 def add_parser(subparsers: argparse._SubParsersAction) -> None:
     """The words of the command."""
-    words = subparsers.add_parser("compare", help="two plans side by side, by one set of due times", description=DESCRIPTION)
+    said = "two plans side by side, by one set of due times"
+    words = subparsers.add_parser("compare", help=said, description=DESCRIPTION)
     words.add_argument("aerodrome", metavar="AERODROME")
     words.add_argument("flights", metavar="FLIGHTS")
-    words.add_argument("plan", metavar="PLAN", nargs="?", help="none: that of `cps first`")
+    words.add_argument("plan", metavar="PLAN", nargs="?", help=PLAN_HELP)
     words.add_argument("--aerodrome", dest="aerodrome_then", metavar="FILE", help="the aerodrome of the second side")
     words.add_argument("--flights", dest="flights_then", metavar="FILE", help="the flights of the second side")
-    words.add_argument("--plan", dest="plan_then", metavar="FILE", help="the plan of the second side; none: that of `cps first`")
+    words.add_argument("--plan", dest="plan_then", metavar="FILE", help="the plan of the second side")
     words.add_argument("--due", metavar="FILE", help="a flight file whose estimates are the due times; none: FLIGHTS")
     words.add_argument("--csv", action="store_true", help="the rows as CSV, in seconds")
     words.set_defaults(run=run)
@@ -39,6 +41,8 @@ def add_parser(subparsers: argparse._SubParsersAction) -> None:
 
 def run(arguments: argparse.Namespace) -> int:
     """Runs the command."""
+    if arguments.plan == arguments.plan_then == INPUT:
+        raise Refused(["one plan alone can come from the input"])
     first = planned(arguments.aerodrome, arguments.flights, arguments.plan)
     flights_then = arguments.flights_then or arguments.flights
     then = planned(arguments.aerodrome_then or arguments.aerodrome, flights_then, arguments.plan_then)
@@ -82,7 +86,8 @@ def _difference(flight: Flight, second: int | None, then: int | None) -> int | N
 
 def _row(flight: Flight, second: int | None, then: int | None) -> list[object]:
     cells = [it for landing in (second, then) for it in _landing(flight, landing)]
-    return [flight.callsign, flight.category, clock.shown(flight.eta), *cells, signed(_difference(flight, second, then))]
+    difference = signed(_difference(flight, second, then))
+    return [flight.callsign, flight.category, clock.shown(flight.eta), *cells, difference]
 
 
 def _landing(flight: Flight, second: int | None) -> list[str | None]:
@@ -106,8 +111,8 @@ def _sum_rows(rows: Sequence[tuple[Flight, int | None, int | None]]) -> Iterator
 def _late(due: dict[str, Flight], side: Planned, path: str) -> Iterator[str]:
     """Where the objective of a side counts from another second than this comparison."""
     for flight in side.flights:
-        if flight.eta != due[flight.callsign].eta:
-            yield (
-                f"{path}: {flight.callsign} has the estimate {clock.shown(flight.eta)} and is due {clock.shown(due[flight.callsign].eta)}: "
-                "the objective counts from the estimate, and the delays above from the due time"
-            )
+        second = due[flight.callsign].eta
+        if flight.eta != second:
+            where = f"{path}: {flight.callsign} has the estimate {clock.shown(flight.eta)}"
+            said = "the objective counts from the estimate, and the delays above from the due time"
+            yield f"{where} and is due {clock.shown(second)}: {said}"

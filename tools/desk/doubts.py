@@ -12,6 +12,7 @@ FEW_FLIGHTS = 3  # so many or fewer that stand apart are likely mistyped; more a
 LATEST_WINDOW = 60  # minutes from an estimate to the beginning of its flight's first window
 EARLIEST_WINDOW = 5  # minutes from the beginning of a flight's first window to its estimate
 MOST_BETWEEN_WINDOWS = 60  # minutes from one window of a flight to its next
+WITHOUT_COLON = 2_400  # where all estimates are seconds below it, they are likely clock times as 1030
 MOST_BETWEEN_ESTIMATES = 120  # minutes by which an event moves an estimate
 
 
@@ -26,6 +27,14 @@ def of_flights(file: str, flights: Sequence[Flight], named: Iterable[str] = ()) 
             Doubt(Place(file), f"{len(flights)} flights; at most {MOST_WAITING} may wait, the others must be frozen")
         )
     return sorted(doubts, key=lambda doubt: doubt.where.row or 0)
+
+
+def of_times(file: str, flights: Sequence[Flight]) -> list[Doubt]:
+    """A doubt about a sheet whose estimates were all read as seconds and are likely clock times without a colon."""
+    if len(flights) < 2 or any(it.eta >= WITHOUT_COLON or it.eta % 100 >= 60 for it in flights):
+        return []
+    said = f"all are seconds below {WITHOUT_COLON}, before {clock.shown(WITHOUT_COLON)}"
+    return [Doubt(Place(file, None, "eta"), f"{said}; a clock time has a colon, as 10:30")]
 
 
 def _minutes(seconds: int) -> str:

@@ -2,7 +2,19 @@
 
 from tools.desk import clock
 from tools.desk.changes import Situation
-from tools.desk.model import MOST_ACTIVE, MOST_CLOSURES, MOST_WAITING, Add, Cancel, Clock, Close, Estimate, Event, Reopen, Span
+from tools.desk.model import (
+    MOST_ACTIVE,
+    MOST_CLOSURES,
+    MOST_WAITING,
+    Add,
+    Cancel,
+    Clock,
+    Close,
+    Estimate,
+    Event,
+    Reopen,
+    Span,
+)
 
 
 def opening_words(opening: Situation) -> str:
@@ -47,8 +59,13 @@ def refusal_words(cause: str, event: Event) -> str:
         "unknown-closure": "no such closure stands",
         "clock-back": "the clock stood at {0} already",
     }[word]
-    shown = [clock.shown(int(it)) if it.isdigit() and not _is_callsign(word, number) else it for number, it in enumerate(values)]
+    shown = [_value_words(word, number, it) for number, it in enumerate(values)]
     return said.format(*shown, callsign=getattr(event, "callsign", ""))
+
+
+def _value_words(word: str, number: int, value: str) -> str:
+    """A second on the clock, and any other value as it is."""
+    return clock.shown(int(value)) if value.isdigit() and not _is_callsign(word, number) else value
 
 
 def _is_callsign(word: str, number: int) -> bool:

@@ -1,7 +1,6 @@
 """The fields of a record: what stands there, read strictly as the program reads it, or leniently as people write it."""
 
 import re
-from collections.abc import Callable
 from dataclasses import dataclass
 
 from tools.desk import clock
@@ -18,6 +17,7 @@ from tools.desk.model import (
 CALLSIGN = re.compile(r"[A-Z0-9]{2,8}")
 DASHES = str.maketrans({it: "-" for it in "\u2010\u2011\u2012\u2013\u2014\u2212"})
 OTHER_CATEGORIES = "JHML"  # ICAO's, of which no letter of the table follows
+THOUSANDS = re.compile(r"(?<=\d)[ ,'](?=\d{3}(?!\d))")
 MOST_DIGITS = 18  # more are above each range, and Python refuses thousands
 
 WANTED_CALLSIGN = "a callsign of 2 to 8 capital letters or digits"
@@ -95,7 +95,7 @@ def number(field: Field, low: int, high: int) -> int | None:
     found = whole_number(field.text, field.lenient)
     if found is not None and low <= found <= high:
         return found
-    field.refuse(f"a whole number from {low} to {high}", _number_cure(field.text) if found is None else "")
+    field.refuse(f"a whole number from {low} to {high}", _number_cure(field.text, high) if found is None else "")
     return None
 
 
@@ -106,12 +106,13 @@ def weight(field: Field) -> int | None:
     return number(field, 1, MOST_WEIGHT)
 
 
-def _number_cure(text: str) -> str:
-    found = whole_number(text.replace(",", "").replace(" ", ""), lenient=True)
+def _number_cure(text: str, high: int) -> str:
+    """How a number up to a greatest one is written that has a sign between its thousands, or is a clock time."""
+    found = whole_number(THOUSANDS.sub("", text.strip()), lenient=True)
     if found is not None:
-        return f"write {found}"
+        return f"write {found}" if found <= high else ""
     at = clock.read(text)
-    return f"write {at}; `desk sheet` turns clock times into seconds" if at is not None else ""
+    return "" if at is None or at > high else f"write {at}; `desk sheet` turns clock times into seconds"
 
 
 def read_second(text: str, lenient: bool) -> int | None:
@@ -128,7 +129,7 @@ def second(field: Field) -> int | None:
     if field.lenient:
         field.refuse(clock.WANTED, "" if found is None else f"the last is {clock.shown(clock.LAST_SECOND)}")
     else:
-        field.refuse(WANTED_SECONDS, _number_cure(field.text) if found is None else "")
+        field.refuse(WANTED_SECONDS, _number_cure(field.text, clock.LAST_SECOND) if found is None else "")
     return None
 
 
@@ -142,19 +143,19 @@ def windows(field: Field) -> tuple[Span, ...] | None:
         field.refuse(f"at most {MOST_WINDOWS} windows", f"{len(parts)} stand there")
     spans = [_ends(field, part, clock.LAST_SECOND) for part in parts]
     found = tuple(span for span in spans if span is not None)
-    if len(found) < len(spans) or not _are_windows(field, found):
+    if len(found) < len(spans) or not _are_windows(field, parts, found):
         return None
     return found
 
 
-def _are_windows(field: Field, spans: tuple[Span, ...]) -> bool:
-    before, known = None, len(field.faults)
-    for span in spans:
+def _are_windows(field: Field, parts: list[str], spans: tuple[Span, ...]) -> bool:
+    known = len(field.faults)
+    for place, (part, span) in enumerate(zip(parts, spans, strict=True)):
         if span.last < span.first:
-            field.refuse("the first second, then the last", _backward_cure(span), _ends_text(field, span))
-        elif before is not None and span.first <= before.last:
-            field.refuse("windows in turn that share no second", f"it begins before {_ends_text(field, before)} ends")
-        before = span
+            field.refuse("the first second, then the last", _backward_cure(span), part)
+        elif place and span.first <= spans[place - 1].last:
+            cure = f"it begins before {parts[place - 1]} ends"
+            field.refuse("windows in turn that share no second", cure, part)
     seconds = sum(span.last - span.first + 1 for span in spans)
     if len(field.faults) == known and seconds > MOST_WINDOW_SECONDS:
         field.refuse(f"windows of at most {MOST_WINDOW_SECONDS} seconds together", f"these have {seconds}")
@@ -166,11 +167,6 @@ def _backward_cure(span: Span) -> str:
         later = span.last + clock.DAY
         return f"the second day's {clock.shown(span.last)} is {clock.shown(later)}, or {later} seconds"
     return "it ends before it begins"
-
-
-def _ends_text(field: Field, span: Span) -> str:
-    show: Callable[[int], object] = clock.shown if field.lenient else str
-    return f"{show(span.first)}-{show(span.last)}"
 
 
 def span_of(field: Field) -> Span | None:

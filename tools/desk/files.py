@@ -1,7 +1,6 @@
 """The strict files of the program: read into the model, and written from it."""
 
-import csv
-import io
+import functools
 from collections.abc import Sequence
 from pathlib import Path
 
@@ -30,6 +29,9 @@ from tools.desk.records import events_of, flights_of
 from tools.desk.strict_tables import strict_rows
 
 
+CACHED = 8_192  # so many flights and landings are kept, as the moments of a replay have most of theirs in common
+
+
 def read_aerodrome(path: str) -> Aerodrome:
     """The aerodrome of a file. Refuses the file with all of its faults."""
     aerodrome, faults = aerodrome_of(path, Path(path).read_bytes())
@@ -56,9 +58,9 @@ def read_events(path: str) -> list[Event]:
     return events
 
 
-def read_plan(path: str) -> Plan | None:
-    """The plan of a plan file, None for `infeasible`. Refuses the file with all of its faults."""
-    plan, faults = plan_reader.plan_of(path, Path(path).read_bytes())
+def read_plan(path: str, name: str) -> Plan | None:
+    """The plan of a plan file, None for `infeasible`. Refuses the file, by a name, with all of its faults."""
+    plan, faults = plan_reader.plan_of(name, Path(path).read_bytes())
     if faults:
         raise Refused(faults)
     return plan
@@ -73,6 +75,7 @@ def plan_of(text: str) -> Plan | None:
     return Plan(Objective(objective), int(value), tuple(map(_landing, lines)))
 
 
+@functools.lru_cache(CACHED)
 def _landing(line: str) -> Landing:
     _, callsign, second, mark = line.split()
     return Landing(callsign, int(second), mark == "frozen")
@@ -122,12 +125,12 @@ def aerodrome_text(aerodrome: Aerodrome) -> str:
 
 def flights_text(flights: Sequence[Flight]) -> str:
     """A flight file."""
-    return _csv_text([FLIGHT_COLUMNS, *map(flight_fields, flights)])
+    return "".join([_line(FLIGHT_COLUMNS), *map(_flight_line, flights)])
 
 
 def events_text(events: Sequence[Event]) -> str:
     """An event log."""
-    return _csv_text([EVENT_COLUMNS, *map(event_fields, events)])
+    return "".join([_line(EVENT_COLUMNS), *(_line(event_fields(it)) for it in events)])
 
 
 def spans_text(spans: Sequence[Span]) -> str:
@@ -164,7 +167,11 @@ def event_fields(event: Event) -> list[str]:
             return ["clock", "", "", str(second), "", "", ""]
 
 
-def _csv_text(rows: Sequence[list[str]]) -> str:
-    text = io.StringIO()
-    csv.writer(text, lineterminator="\n").writerows(rows)
-    return text.getvalue()
+@functools.lru_cache(CACHED)
+def _flight_line(flight: Flight) -> str:
+    return _line(flight_fields(flight))
+
+
+def _line(fields: Sequence[str]) -> str:
+    """A record. No field of these files holds a comma, a quote or a line end."""
+    return ",".join(fields) + "\n"

@@ -9,11 +9,25 @@ from tools.desk.moments import Moment
 
 # The words of a moment's files, in the order in which the program names them.
 NAMES = ("aerodrome.toml", "flights.csv", "plan.txt")
+# What stands beside the moments.
+PAGES = ("replay.csv", "replay.html")
 
 
 def folder_of(folder: Path, number: int) -> Path:
     """Where the files of a moment stand."""
     return folder / f"{number:04}"
+
+
+def clear(folder: Path) -> None:
+    """Takes away the moments of an earlier replay: their files, and folders where nothing else stands."""
+    for place in folder.glob("[0-9][0-9][0-9][0-9]"):
+        if place.is_dir():
+            for name in NAMES:
+                place.joinpath(name).unlink(missing_ok=True)
+            if not any(place.iterdir()):
+                place.rmdir()
+    for name in PAGES:
+        folder.joinpath(name).unlink(missing_ok=True)
 
 
 def write(folder: Path, moment: Moment) -> None:
@@ -26,9 +40,15 @@ def write(folder: Path, moment: Moment) -> None:
 
 
 def judged(folder: Path, moments: Sequence[Moment]) -> dict[int, list[str]]:
-    """What is found in the files of each of these moments, side by side: nothing where all is right."""
-    found = each(lambda moment: audited(folder, moment) + planned(folder, moment), moments, "moments judged")
+    """Writes the files of these moments. What is found in those of each, side by side: nothing where all is right."""
+    found = each(lambda moment: _written(folder, moment), moments, "moments judged")
     return {moment.number: findings for moment, findings in zip(moments, found)}
+
+
+def _written(folder: Path, moment: Moment) -> list[str]:
+    """Writes the files of a moment, while the program judges others, and gives what is found in them."""
+    write(folder, moment)
+    return audited(folder, moment) + planned(folder, moment)
 
 
 def audited(folder: Path, moment: Moment) -> list[str]:

@@ -30,7 +30,8 @@ def landed(aerodrome: Aerodrome, flights: Sequence[Flight], plan: Plan | None) -
     """The flights that a plan lands, by their seconds, and then those that it does not land, in first-come order."""
     known = {it.callsign: it for it in flights}
     frozen = {it.callsign for it in aerodrome.frozen}
-    ranks = {it.callsign: rank for rank, it in enumerate(in_turn([it for it in flights if it.callsign not in frozen]), 1)}
+    waiting = in_turn([it for it in flights if it.callsign not in frozen])
+    ranks = {it.callsign: rank for rank, it in enumerate(waiting, 1)}
     landings = sorted(plan.landings if plan else (), key=lambda it: it.second)
     rows, place, ahead = [], 0, None
     for it in landings:

@@ -1,7 +1,8 @@
 """A replay as data: for each event what happened, the situation and the plan then, and who moved since the plan before.
 
-`moments_of` walks along the log beside what `cps replay` printed. The program alone decides what is accepted and planned; here
-its rules of what an event changes are followed, so that the files of a moment can be written. `audit` and `plan` judge them.
+`moments_of` walks along the log beside what `cps replay` printed. The program alone decides what is accepted and
+planned; here its rules of what an event changes are followed, so that the files of a moment can be written. `audit` and
+`plan` judge them.
 """
 
 from collections.abc import Iterable, Iterator, Sequence
@@ -16,8 +17,8 @@ from tools.desk.model import Aerodrome, Event, Flight, Landing, Plan, Span, Step
 class Move:
     """A flight that lands at another second, or in another place, than in the plan before.
 
-    The seconds are above 0 where it lands later. The places are above 0 where it lands further back, counted among the flights
-    that both plans land: who comes in or goes away shifts nobody's place.
+    The seconds are above 0 where it lands later. The places are above 0 where it lands further back, counted among the
+    flights that both plans land: who comes in or goes away shifts nobody's place.
     """
 
     callsign: str
@@ -33,7 +34,7 @@ class Moment:
     event: Event | None  # None for the opening
     happened: str  # the event in words, as "cancel BAW12" or "clock 10:30:00, horizon 10:45:00"
     refusal: str | None  # None where it was accepted, or else the program's words, as "frozen 37800"
-    aerodrome: Aerodrome  # with the closures, the clock, the frozen landings and the counts of those passed, at this moment
+    aerodrome: Aerodrome  # with the closures, the clock, the frozen landings and the counts of this moment
     flights: tuple[Flight, ...]  # the active flights, frozen ones too, in order of arrival
     plan: Plan | None  # None where no plan is feasible
     since: int | None  # the moment whose plan the moves are counted from: the last before that has a plan
@@ -76,7 +77,7 @@ class Moment:
 def moments_of(
     aerodrome: Aerodrome, flights: Sequence[Flight], events: Sequence[Event], steps: Iterable[Step]
 ) -> Iterator[Moment]:
-    """The moments of a replay, the opening first. The steps are those that the program printed, one more than events."""
+    """The moments of a replay, the opening first. The steps are what the program printed, one more than events."""
     steps = iter(steps)
     now = Situation(aerodrome, tuple(flights))
     plan = next(steps).plan
@@ -107,9 +108,17 @@ def _froze(before: Situation, now: Situation) -> tuple[Landing, ...]:
 
 def moves_between(before: Plan, after: Plan) -> tuple[Move, ...]:
     """Who moved from one plan to another, in the landing order of the latter."""
-    old = {it.callsign: it.second for it in before.landings}
-    new = {it.callsign: it.second for it in after.landings}
+    start = _same(before.landings, after.landings)
+    old = {it.callsign: it.second for it in before.landings[start:]}
+    new = {it.callsign: it.second for it in after.landings[start:]}
     places = {callsign: place for place, callsign in enumerate(it for it in old if it in new)}
     both = [callsign for callsign in new if callsign in old]
     moves = (Move(it, new[it] - old[it], place - places[it]) for place, it in enumerate(both))
     return tuple(it for it in moves if it.seconds or it.places)
+
+
+def _same(before: Sequence[Landing], after: Sequence[Landing]) -> int:
+    """With how many equal landings both begin. These have not moved, and shift nobody's place."""
+    pairs = enumerate(zip(before, after))
+    differs = (at for at, (one, two) in pairs if (one.second, one.callsign) != (two.second, two.callsign))
+    return next(differs, min(len(before), len(after)))

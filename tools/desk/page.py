@@ -69,7 +69,7 @@ class _Changes:
     """What the moments so far have said, from which the data of the next are told apart."""
 
     names: dict[str, int] = field(default_factory=dict)
-    flights: dict[str, list] = field(default_factory=dict)
+    flights: dict[str, Flight] = field(default_factory=dict)
     landings: dict[str, tuple[int, bool]] = field(default_factory=dict)
     closures: tuple[Span, ...] = ()
     horizon: int = 0
@@ -104,10 +104,10 @@ class _Changes:
     def _flights(self, flights: Sequence[Flight]) -> Iterator[list]:
         """The flights that are new or have another estimate or other windows."""
         for flight in flights:
-            said = [flight.category, flight.eta, _pairs(flight.windows)]
-            if self.flights.get(flight.callsign) != said:
-                self.flights[flight.callsign] = said
-                yield [self._index(flight.callsign), *said]
+            known = self.flights.get(flight.callsign)
+            if known is not flight and known != flight:
+                self.flights[flight.callsign] = flight
+                yield [self._index(flight.callsign), flight.category, flight.eta, _pairs(flight.windows)]
 
     def _landings(self, moment: Moment) -> Iterator[list[int | None]]:
         """The flights that land otherwise than before. Where there is no plan, the frozen flights alone land."""

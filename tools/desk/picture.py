@@ -5,7 +5,7 @@ import sys
 
 from tools.desk.drawing import svg
 from tools.desk.faults import GOOD
-from tools.desk.planned import planned
+from tools.desk.planned import PLAN_HELP, planned
 from tools.desk.scene import scene_of
 
 DESCRIPTION = """Draws a plan, right or wrong, in the opening situation of the files: windows, estimates, landings, owed
@@ -18,7 +18,7 @@ def add_parser(subparsers: argparse._SubParsersAction) -> None:
     words = subparsers.add_parser("picture", help="a plan as a picture in SVG", description=DESCRIPTION)
     words.add_argument("aerodrome", metavar="AERODROME")
     words.add_argument("flights", metavar="FLIGHTS")
-    words.add_argument("plan", metavar="PLAN", nargs="?", help="a plan's file, or - for the input; none: that of `cps first`")
+    words.add_argument("plan", metavar="PLAN", nargs="?", help=PLAN_HELP)
     words.set_defaults(run=run)
 
 

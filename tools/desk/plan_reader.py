@@ -47,7 +47,7 @@ def _of_text(file: str, text: str) -> Iterator[Fault]:
         yield Fault(Place(file, 1), None, "no mark of byte order", "save it as plain UTF-8 or ASCII")
     count = text.count("\r\n")
     if count:
-        cure = f"{count} lines end with CR LF; save it with the line ends of Unix"
+        cure = f"{count} of the lines end with CR LF; save it with the line ends of Unix"
         yield Fault(Place(file, 1 + text[: text.index("\r\n")].count("\n")), None, "lines that end with LF alone", cure)
     if not text.endswith("\n"):
         yield Fault(Place(file, text.count("\n") + 1), None, "a line end behind the last line")

@@ -10,6 +10,7 @@ from tools.desk.model import Aerodrome, Flight, Plan
 from tools.desk.refusals import refused
 
 INPUT = "-"
+PLAN_HELP = "a plan's file, or - for the input; none: that of `cps first`"
 
 
 @dataclass(frozen=True)
@@ -49,8 +50,10 @@ def _path(aerodrome: str, flights: str, plan: str | None, folder: Path) -> str:
 def _audited(named: dict[str, str], shown: dict[str, str]) -> Planned:
     """The files and the plan, with the findings. A refusal has the names as they are shown."""
     answer = program.run(["audit", *named.values()])
+    if answer.refused and not answer.err.startswith("cps: plan:"):
+        raise refused(answer, shown)
+    plan = files.read_plan(named["plan"], shown["plan"])
     if answer.refused:
         raise refused(answer, shown)
-    plan = files.read_plan(named["plan"])
     findings = answer.out.splitlines() if answer.status == 7 else []
     return Planned(files.read_aerodrome(named["aerodrome"]), files.read_flights(named["flights"]), plan, findings)

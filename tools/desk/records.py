@@ -159,7 +159,13 @@ def _refuse_others(row: Row, kind: str) -> None:
     for column in EVENT_COLUMNS[1:]:
         if column not in USES[kind] and not row.is_empty(column):
             used = " and ".join(USES[kind])
-            row.field(column).refuse("nothing here", f"the kind {kind} has {used} alone")
+            row.field(column).refuse("nothing here", f"the kind {kind} has {used} alone{_likely(row, kind, column)}")
+
+
+def _likely(row: Row, kind: str, column: str) -> str:
+    """The column in which a text is likely meant to stand: the kind's one that is empty."""
+    empty = [it for it in USES[kind] if it in row.texts and row.is_empty(it)]
+    return f"; is it meant for {empty[0]}?" if len(empty) == 1 and empty[0] != column else ""
 
 
 def _event_of(row: Row, kind: str) -> Event | None:

@@ -16,7 +16,7 @@ TOO_LONG = "too long"
 def refused(answer: Answer, named: Mapping[str, str]) -> Refused:
     """What the program said, as faults that end a command."""
     where, cause = said(answer, named)
-    advice = "" if cause in (UNREAD, TOO_LONG) else f"; {ADVICE}"
+    advice = "" if cause.startswith((UNREAD, TOO_LONG)) else f"; {ADVICE}"
     return Refused([f"{where}: {cause}{advice}"])
 
 
@@ -27,12 +27,22 @@ def said(answer: Answer, named: Mapping[str, str]) -> tuple[str, str]:
     """
     line = answer.err.strip().removeprefix("cps: ")
     if found := re.fullmatch(r"file (\d+): (.*)", line):
-        return list(named.values())[int(found[1]) - 1], UNREAD if found[2] == "failed" else found[2]
+        path = list(named.values())[int(found[1]) - 1]
+        return path, _unread(path) if found[2] == "failed" else found[2]
     kind, _, cause = line.partition(": ")
     if kind in named:
         return _placed(named[kind], cause)
     files = ", ".join(named[it] for it in ("aerodrome", "flights") if it in named)
     return files, cause if kind == "opening" else line or f"the program ended with status {answer.status}"
+
+
+def _unread(path: str) -> str:
+    """That a file cannot be read, and why, as the system says."""
+    try:
+        Path(path).read_bytes()
+    except OSError as trouble:
+        return f"{UNREAD}: {trouble.strerror}"
+    return UNREAD
 
 
 def _placed(path: str, cause: str) -> tuple[str, str]:

@@ -19,10 +19,10 @@ class Relaxation:
 
 
 def relaxations(now: Situation, core: Collection[str], most_shift: int) -> list[Relaxation]:
-    """Those of k, of the closures, and of the waiting flights of a conflict's core. The longest to plan, k, comes first."""
+    """Those of k, of the closures, and of the waiting flights of a conflict's core. k takes longest and comes first."""
     flights = [it for it in now.waiting() if it.callsign in core]
-    parts = _of_shift(now, most_shift), _of_closures(now), *(part(now, flights) for part in (_of_windows, _of_after, _left_out))
-    return [it for part in parts for it in part]
+    of_flights = (part(now, flights) for part in (_of_windows, _of_after, _left_out))
+    return [it for part in (_of_shift(now, most_shift), _of_closures(now), *of_flights) for it in part]
 
 
 def _of_shift(now: Situation, most: int) -> Iterator[Relaxation]:
@@ -77,7 +77,7 @@ def only(now: Situation, callsigns: Collection[str]) -> Situation:
 
 @dataclass(frozen=True)
 class Conflict:
-    """The smallest group from the front of the first-come order that is infeasible, and the last of it that are so alone."""
+    """The smallest infeasible group from the front of the first-come order, and the last of it that are so alone."""
 
     front: list[str]
     core: list[str]
@@ -86,8 +86,8 @@ class Conflict:
 def conflict(now: Situation) -> Conflict:
     """Finds both by halves, in an infeasible situation.
 
-    Of a schedule of some flights in first-come order the last may be taken out, and the first too where none has a count: no
-    rule is broken by that. So what concerns only flights beside the core leaves the whole infeasible.
+    Of a schedule of some flights in first-come order the last may be taken out, and the first too where none has a
+    count: no rule is broken by that. So what concerns only flights beside the core leaves the whole infeasible.
     """
     names = [it.callsign for it in now.waiting()]
     front = names[: _least(len(names), lambda size: not is_feasible(only(now, names[:size])))]
@@ -120,6 +120,7 @@ def plan_of(now: Situation) -> Plan | None:
 
 
 def relaxed_plan(relaxation: Relaxation, core: Collection[str]) -> Plan | None:
-    """The plan with one thing relaxed, if there is one. Where the core is infeasible still, which is soon asked, all are."""
+    """The plan with one thing relaxed, if there is one. Where the core is infeasible still, and that is soon asked, so
+    are all."""
     now = relaxation.situation
     return plan_of(now) if is_feasible(only(now, core)) else None

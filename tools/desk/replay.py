@@ -13,23 +13,24 @@ from tools.desk.moments import Moment, moments_of
 from tools.desk.refusals import refused
 from tools.desk.replay_words import csv_rows, line
 
-DESCRIPTION = """Prints for each event of a log what happened: its number, record and row, the clock, whether it was accepted or
-why not, what froze, and who moved since the plan before, by how many seconds and places among the flights of both plans.
-FOLDER/NNNN gets the aerodrome, flight and plan files of the moment after event NNNN, the opening being 0000; a refused event
-changes nothing and gets none. `audit` judges each, and `plan` must give its value."""
+DESCRIPTION = """Prints for each event of a log what happened: its number, record and row, the clock, whether it was
+accepted or why not, what froze, and who moved since the plan before, by how many seconds and places among the flights
+of both plans. FOLDER/NNNN gets the aerodrome, flight and plan files of the moment after event NNNN, the opening being
+0000; a refused event changes nothing and gets none. `audit` judges each, and `plan` must give its value."""
 
 
 def add_parser(subparsers: argparse._SubParsersAction) -> None:
     """The words of the command."""
-    words = subparsers.add_parser("replay", help="a log event by event: who moved, and the files of each moment", description=DESCRIPTION)
+    said = "a log event by event: who moved, and the files of each moment"
+    words = subparsers.add_parser("replay", help=said, description=DESCRIPTION)
     words.add_argument("aerodrome", metavar="AERODROME")
     words.add_argument("flights", metavar="FLIGHTS")
     words.add_argument("events", metavar="EVENTS")
     words.add_argument("folder", metavar="FOLDER", type=Path, help="a new or empty folder")
     words.add_argument("--moments", type=numbers, help="write and judge these alone, as 0,5,8-12; refused events too")
     words.add_argument("--csv", action="store_true", help="also FOLDER/replay.csv: a row for each event and flight")
-    words.add_argument("--html", action="store_true", help="also FOLDER/replay.html: a page with the picture of each moment")
-    words.add_argument("--force", action="store_true", help="write over what stands in FOLDER")
+    words.add_argument("--html", action="store_true", help="also FOLDER/replay.html: a page with all pictures")
+    words.add_argument("--force", action="store_true", help="replace the moments of an earlier replay in FOLDER")
     words.set_defaults(run=run)
 
 
@@ -52,8 +53,7 @@ def run(arguments: argparse.Namespace) -> int:
     for moment in moments:
         print(line(moment))
     arguments.folder.mkdir(parents=True, exist_ok=True)
-    for moment in chosen:
-        judging.write(arguments.folder, moment)
+    judging.clear(arguments.folder)
     sys.stdout.flush()
     findings = judging.judged(arguments.folder, chosen)
     if arguments.csv:
@@ -79,7 +79,7 @@ def _refuse_full(folder: Path, force: bool) -> None:
     if folder.exists() and not folder.is_dir():
         raise Refused([f"{folder}: is no folder"])
     if folder.is_dir() and any(folder.iterdir()) and not force:
-        raise Refused([f"{folder}: is not empty; name another folder, or write over what stands there with --force"])
+        raise Refused([f"{folder}: is not empty; name another folder, or replace an earlier replay there with --force"])
 
 
 def _chosen(moments: Sequence[Moment], asked: set[int] | None) -> list[Moment]:
@@ -106,5 +106,6 @@ def _verdict(moments: Sequence[Moment], findings: dict[int, list[str]]) -> int:
     for number, found in wrong.items():
         print(f"event {number}: found in its files: {'; '.join(found)}")
     clean = len(findings) - len(wrong)
-    print(f"{counted(clean, 'moment')} of {len(findings)} judged right: audit finds nothing, and plan gives the value of the replay")
+    right = "judged right: audit finds nothing, and plan gives the value of the replay"
+    print(f"{counted(clean, 'moment')} of {len(findings)} {right}")
     return FINDINGS if wrong or moments[-1].plan is None else GOOD

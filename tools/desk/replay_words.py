@@ -75,7 +75,7 @@ def _move_words(move: Move) -> str:
 
 
 def csv_rows(moments: Iterable[Moment]) -> Iterator[list]:
-    """A row for each event and each flight that is active after it. Times are seconds after midnight; what is not is empty."""
+    """A row for each event and each flight that is active after it. Times are seconds; what is not there is empty."""
     yield COLUMNS
     for moment in moments:
         yield from _rows(moment)
@@ -97,13 +97,14 @@ def _rows(moment: Moment) -> Iterator[list]:
     for flight in moment.flights:
         callsign, second = flight.callsign, seconds.get(flight.callsign)
         landed = [None] * 3 if second is None else [second, clock.shown(second), flight.delay(second)]
-        move = moves.get(callsign, Move(callsign, 0, 0))
+        move = moves.get(callsign)
+        moved = (move.seconds, move.places) if move else (0, 0)
         yield [
             *head,
             *(callsign, flight.category, flight.weight, flight.eta, "frozen" if callsign in frozen else "waiting"),
             *landed,
             *(ranks.get(callsign), places.get(callsign), passed.get(callsign, 0)),
-            *(move.seconds, move.places, int(callsign in froze)),
+            *(*moved, int(callsign in froze)),
         ]
 
 

@@ -26,4 +26,5 @@ def run(arguments: argparse.Namespace) -> int:
     flights = flights_of(sheet.rows)
     sheets.say_defaults(sheet, sheet.rows, arguments.window)
     named = [row.texts.get("callsign", "").strip().upper() for row in sheet.rows]
-    return sheets.finish(sheet, doubts.of_flights(sheet.file, flights, named), files.flights_text(flights), arguments)
+    found = [*doubts.of_times(sheet.file, flights), *doubts.of_flights(sheet.file, flights, named)]
+    return sheets.finish(sheet, found, files.flights_text(flights), arguments)

@@ -6,13 +6,13 @@ import sys
 from tools.desk import clock
 from tools.desk.columns import aligned, write_csv
 from tools.desk.faults import FINDINGS, GOOD
-from tools.desk.landed import Landed, landed, sums
-from tools.desk.planned import Planned, planned
+from tools.desk.landed import Landed, Sum, landed, sums
+from tools.desk.planned import PLAN_HELP, Planned, planned
 from tools.desk.replay_words import value_words
 
-DESCRIPTION = """Prints a row for each flight in landing order: when it is due and lands, its delay in minutes and seconds, how
-many places it moved from first-come order (+ further back, - ahead), how far behind the landing ahead it lands and has to.
-Then sums by the first three letters of the callsign, in seconds, and what audit finds."""
+DESCRIPTION = """Prints a row for each flight in landing order: when it is due and lands, its delay in minutes and
+seconds, how many places it moved from first-come order (+ further back, - ahead), how far behind the landing ahead it
+lands and has to. Then sums by the first three letters of the callsign, in seconds, and what audit finds."""
 HEAD = ["place", "flight", "cat", "due", "lands", "delay", "moved", "behind", "owed", ""]
 SUMS = ["airline", "flights", "delay", "mean", "weighted"]
 CSV_HEAD = [
@@ -23,11 +23,12 @@ CSV_HEAD = [
 
 def add_parser(subparsers: argparse._SubParsersAction) -> None:
     """The words of the command."""
-    words = subparsers.add_parser("table", help="a plan with clock times, delays, places moved and sums", description=DESCRIPTION)
+    said = "a plan with clock times, delays, places moved and sums"
+    words = subparsers.add_parser("table", help=said, description=DESCRIPTION)
     words.add_argument("aerodrome", metavar="AERODROME")
     words.add_argument("flights", metavar="FLIGHTS")
-    words.add_argument("plan", metavar="PLAN", nargs="?", help="a plan's file, or - for the input; none: that of `cps first`")
-    words.add_argument("--csv", action="store_true", help="the rows as CSV, in seconds too; findings go to the standard error")
+    words.add_argument("plan", metavar="PLAN", nargs="?", help=PLAN_HELP)
+    words.add_argument("--csv", action="store_true", help="the rows as CSV; the findings go to the standard error")
     words.set_defaults(run=run)
 
 
@@ -44,7 +45,7 @@ def run(arguments: argparse.Namespace) -> int:
         print("\n".join(aligned(HEAD, (_row(place, row) for place, row in enumerate(rows, 1)), left=3)))
         print()
         parts = sums((row.flight, row.delay) for row in rows if row.flight and row.delay is not None)
-        print("\n".join(aligned(SUMS, ([p.name, p.flights, p.delay, _mean(p.delay, p.flights), p.weighted] for p in parts))))
+        print("\n".join(aligned(SUMS, map(_sum_row, parts))))
         print()
     print("\n".join(_findings(it)), file=sys.stderr if arguments.csv else sys.stdout)
     return FINDINGS if it.findings or it.plan is None else GOOD
@@ -56,7 +57,8 @@ def _row(place: int, row: Landed) -> list[object]:
         return ["", row.callsign, category, due, "not landed", *[None] * 4, ""]
     delay = None if row.delay is None else clock.duration(row.delay)
     mark = "frozen" if row.frozen else ""
-    return [place, row.callsign, category, due, clock.shown(row.second), delay, signed(row.moved), row.behind, row.owed, mark]
+    lands, moved = clock.shown(row.second), signed(row.moved)
+    return [place, row.callsign, category, due, lands, delay, moved, row.behind, row.owed, mark]
 
 
 def signed(number: int | None) -> str | None:
@@ -64,8 +66,9 @@ def signed(number: int | None) -> str | None:
     return number if number is None else f"{number:+}" if number else "0"
 
 
-def _mean(total: int, count: int) -> str:
-    return f"{total / count:.1f}" if count else ""
+def _sum_row(it: Sum) -> list[object]:
+    mean = f"{it.delay / it.flights:.1f}" if it.flights else ""
+    return [it.name, it.flights, it.delay, mean, it.weighted]
 
 
 def _csv_row(place: int, row: Landed) -> list[object]:

@@ -1,7 +1,8 @@
-"""`desk why`: which single relaxations make an infeasible bank feasible, and which flights cannot be landed together."""
+"""`desk why`: what single relaxation makes an infeasible bank feasible, and which flights cannot land together."""
 
 import argparse
 import sys
+import textwrap
 from collections import Counter
 
 from tools.desk import files, program
@@ -16,11 +17,12 @@ from tools.desk.relaxations import Relaxation, conflict, relaxations, relaxed_pl
 from tools.desk.replay import replayed
 from tools.desk.replay_words import line, value_words
 
-DESCRIPTION = """Where no plan is feasible, relaxes one thing after another and plans again: k, each closure, each flight's
-windows (two hours from its estimate on), each precedence, each flight left out. Prints which of these make the bank feasible,
-the objective then, and the smallest group of flights from the front of the first-come order that cannot be landed. What
-concerns only flights that have no part in the conflict cannot help, and is not tried. With a log and an event's number it does so for the
-moment after that event, or says why the event was refused."""
+MOST_WIDE = 100  # a list of callsigns goes on in the next line
+DESCRIPTION = """Where no plan is feasible, relaxes one thing after another and plans again: k, each closure, each
+flight's windows (two hours from its estimate on), each precedence, each flight left out. Prints which of these make the
+bank feasible, the objective then, and the smallest group of flights from the front of the first-come order that cannot
+be landed. What concerns only flights that have no part in the conflict cannot help, and is not tried. With a log and an
+event's number it does so for the moment after that event, or says why the event was refused."""
 
 
 def add_parser(subparsers: argparse._SubParsersAction) -> None:
@@ -30,7 +32,8 @@ def add_parser(subparsers: argparse._SubParsersAction) -> None:
     words.add_argument("flights", metavar="FLIGHTS")
     words.add_argument("events", metavar="EVENTS", nargs="?")
     words.add_argument("number", metavar="NUMBER", nargs="?", type=int, help="an event's number, 0 for the opening")
-    words.add_argument("--most-k", type=int, choices=range(MOST_SHIFT + 1), default=MOST_SHIFT, help="try k up to this alone")
+    shifts = range(MOST_SHIFT + 1)
+    words.add_argument("--most-k", type=int, choices=shifts, default=MOST_SHIFT, help="try k up to this alone")
     words.set_defaults(run=run)
 
 
@@ -43,7 +46,8 @@ def run(arguments: argparse.Namespace) -> int:
             raise Refused(["with a log stands the number of an event, 0 for the opening"])
         moments = replayed(arguments.aerodrome, arguments.flights, arguments.events)
         if not 0 <= arguments.number < len(moments):
-            raise Refused([f"{arguments.events}: there is no event {arguments.number}; the last is event {len(moments) - 1}"])
+            last = len(moments) - 1
+            raise Refused([f"{arguments.events}: there is no event {arguments.number}; the last is event {last}"])
         moment = moments[arguments.number]
         print(line(moment))
         if not moment.accepted:
@@ -72,10 +76,10 @@ def _explain(now: Situation, most_shift: int) -> None:
     found = conflict(now)
     count = len(found.front)
     print(f"from the front of the first-come order {counted(count, 'flight')} cannot be landed, {count - 1} can:")
-    print("  " + " ".join(found.front))
+    print(_listed(found.front))
     if found.core != found.front:
         print(f"of these the last {counted(len(found.core), 'flight')} alone cannot be landed either:")
-        print("  " + " ".join(found.core))
+        print(_listed(found.core))
     sys.stdout.flush()
     core = set(found.core)
     tried = relaxations(now, core, most_shift)
@@ -83,6 +87,10 @@ def _explain(now: Situation, most_shift: int) -> None:
     helpful = [(it, plan) for it, plan in zip(tried, plans) if plan]
     print("\n".join(_helpful(helpful)))
     print(_tried(tried, {it for it, plan in helpful}))
+
+
+def _listed(callsigns: list[str]) -> str:
+    return textwrap.fill(" ".join(callsigns), MOST_WIDE, initial_indent="  ", subsequent_indent="  ")
 
 
 def _helpful(helpful: list[tuple[Relaxation, Plan]]) -> list[str]:

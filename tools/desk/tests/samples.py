@@ -1,8 +1,10 @@
 """What several tests use: the examples, the desk run as a user runs it, and tests that need the built program."""
 
+import atexit
 import contextlib
 import io
 import os
+import sys
 import tempfile
 import unittest
 from collections.abc import Callable, Sequence
@@ -12,6 +14,7 @@ from typing import TypeVar
 from tools.desk import __main__, program
 
 EXAMPLES = program.TOP / "examples"
+SKIPPED = "desk: the tests that ask the program were left out, since it is not built"
 Test = TypeVar("Test", bound=Callable)
 
 
@@ -26,7 +29,15 @@ def has_program() -> bool:
 
 def needs_program(test: Test) -> Test:
     """Marks a test, or a class of tests, that asks the built program."""
+    if not has_program():
+        atexit.register(_say_skipped)  # once for all
     return unittest.skipUnless(has_program(), "the program is not built")(test)
+
+
+def _say_skipped() -> None:
+    """The last line of a run of the tests without a program."""
+    atexit.unregister(_say_skipped)
+    print(f"{SKIPPED}: ./build builds it, or CPS names one", file=sys.stderr)
 
 
 def desk(words: Sequence[str]) -> program.Answer:

@@ -101,7 +101,7 @@ class Third(Checks):
 
     def test_logs(self) -> None:
         for row, cause, *said in [
-            ("clock,37500,,,,,", "callsign not-empty", "row 2, callsign", "nothing here; the kind clock has eta alone"),
+            ("clock,37500,,,,,", "callsign not-empty", "row 2, callsign", "nothing here", "is it meant for eta?"),
             ("estimate,UAE7,,37800,,,", "windows none", "row 2, windows", "one to 4 windows"),
             ("estimate,UAE7,A,37800,,1-2,", "category not-empty", "row 2, category", "nothing here"),
             ("closure,,,,,1-2,", "kind", "row 2, kind", "write close"),
@@ -113,7 +113,7 @@ class Third(Checks):
 
     def test_plans(self) -> None:
         for text, *said in [
-            (PLAN.replace("\n", "\r\n"), "row 1", "11 lines end with CR LF"),
+            (PLAN.replace("\n", "\r\n"), "row 1", "11 of the lines end with CR LF"),
             ("\ufeff" + PLAN, "row 1", "no mark of byte order"),
             (PLAN[:-1], "row 11", "a line end behind the last line"),
             ("event 0 begun\n" + PLAN, 'row 1: "event 0 begun"', "`desk replay` writes the plan of each moment"),

@@ -10,6 +10,7 @@ from tools.desk import program
 
 MODULES = [*(program.TOP / "tools").rglob("*.py"), *(program.TOP / "examples/study").glob("*.py")]
 MOST_LINES = 300
+MOST_COLUMNS = 120
 MOST_FUNCTION_LINES = 40
 MOST_PARAMETERS = 6
 OURS = {"tools", "traffic", "draw"}  # traffic is of bench, draw of checks
@@ -38,6 +39,7 @@ class House(unittest.TestCase):
             tree = ast.parse(text)
             with self.subTest(path.name):
                 self.assertLessEqual(text.count("\n"), MOST_LINES)
+                self.assertLessEqual(max(map(len, text.splitlines()), default=0), MOST_COLUMNS)
                 self.assertTrue(ast.get_docstring(tree))
                 self.assertEqual(set(imports(tree)) - sys.stdlib_module_names - OURS, set())
 

@@ -134,7 +134,7 @@ class Page(unittest.TestCase):
         self.assertEqual(page.html("a day", moments, {}), page.html("a day", moments, {}))
 
     def test_a_day_of_2000_events_is_small(self) -> None:
-        """Each event moves all flights that may wait, and 440 are frozen. A tenth of the day takes a tenth of the bytes."""
+        """Each event moves all flights that may wait, and 440 are frozen. A tenth of the day takes a tenth of it."""
         text = page.html("a day", _busy_day(200), {it: () for it in range(201)})
         self.assertLessEqual(len(text.encode()) * 10, DAY_BYTES)
 

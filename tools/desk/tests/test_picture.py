@@ -197,8 +197,8 @@ class Command(unittest.TestCase):
             windows.write_bytes((bank / "output").read_bytes().replace(b"\n", b"\r\n"))
             for flights, landed, said in (
                 (bad, bank / "output", f"{bad}, row 4: category"),
-                (missing, bank / "output", f"{missing}: cannot be read"),
-                (bank / "flights.csv", windows, f"{windows}, row 1: not what a plan has there"),
+                (missing, bank / "output", f"{missing}: cannot be read: No such file or directory"),
+                (bank / "flights.csv", windows, f"{windows}, row 1: wanted: lines that end with LF alone"),
             ):
                 answer = desk(["picture", str(bank / "aerodrome.toml"), str(flights), str(landed)])
                 self.assertEqual((answer.status, answer.out, answer.err.split(";")[0].strip()), (3, "", said))

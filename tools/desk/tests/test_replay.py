@@ -12,7 +12,21 @@ from tools.desk import files, judging, program
 from tools.desk.beside import each
 from tools.desk.changes import Situation, situation_after
 from tools.desk.event_words import refusal_words
-from tools.desk.model import Add, Aerodrome, Cancel, Clock, Close, Flight, Frozen, Landing, Objective, Passed, Plan, Reopen, Span
+from tools.desk.model import (
+    Add,
+    Aerodrome,
+    Cancel,
+    Clock,
+    Close,
+    Flight,
+    Frozen,
+    Landing,
+    Objective,
+    Passed,
+    Plan,
+    Reopen,
+    Span,
+)
 from tools.desk.moments import Move, moments_of, moves_between
 from tools.desk.replay import replayed
 from tools.desk.tests.samples import EXAMPLES, desk, needs_program
@@ -42,7 +56,8 @@ def flight(callsign: str, eta: int) -> Flight:
 
 def situation(*callsigns: str, **changed) -> Situation:
     """Flights that are due a minute after each other, with the carry."""
-    aerodrome = Aerodrome(**{"version": 3, "k": 2, "freeze": 100, "objective": Objective.MAKESPAN, "table": TABLE, **changed})
+    usual = {"version": 3, "k": 2, "freeze": 100, "objective": Objective.MAKESPAN, "table": TABLE}
+    aerodrome = Aerodrome(**{**usual, **changed})
     return Situation(aerodrome, tuple(flight(it, 1_000 + 60 * number) for number, it in enumerate(callsigns)))
 
 
@@ -96,7 +111,8 @@ class Changes(unittest.TestCase):
 
     def test_a_refusal_is_said_with_clock_times(self) -> None:
         self.assertEqual(refusal_words("frozen 37800", Cancel("AA")), "AA is frozen at 10:30:00")
-        self.assertEqual(refusal_words("covers-frozen 22 37800", Close(Span(1, 2))), "22 is frozen at 10:30:00, within it")
+        said = refusal_words("covers-frozen 22 37800", Close(Span(1, 2)))
+        self.assertEqual(said, "22 is frozen at 10:30:00, within it")
 
 
 @needs_program
@@ -115,7 +131,8 @@ class Replays(unittest.TestCase):
         self.assertIn("froze F2 00:17:30", answer.out.splitlines()[8])
         self.assertIn("8 moments of 8 judged right", answer.out.splitlines()[-1])
         names = sorted(it.name for it in self.folder.iterdir())
-        self.assertEqual(names, ["0000", "0001", "0002", "0004", "0005", "0006", "0007", "0008", "replay.csv", "replay.html"])
+        folders = ["0000", "0001", "0002", "0004", "0005", "0006", "0007", "0008"]
+        self.assertEqual(names, [*folders, "replay.csv", "replay.html"])
         rows = list(csv.DictReader(self.folder.joinpath("replay.csv").read_text("ascii").splitlines()))
         self.assertEqual([row["callsign"] for row in rows if row["event"] == "8"], ["F1", "F2"])
         self.assertEqual([row["froze"] for row in rows if row["event"] == "8"], ["0", "1"])
@@ -132,6 +149,14 @@ class Replays(unittest.TestCase):
         answer = desk(["replay", *DAY, str(self.folder)])
         self.assertEqual((answer.status, answer.out), (3, ""))
         self.assertIn("is not empty", answer.err)
+
+    def test_an_earlier_replay_is_replaced(self) -> None:
+        self.folder.joinpath("mine").write_text("mine")
+        self.assertEqual(desk(["replay", *DAY, str(self.folder), "--csv", "--force"]).status, 0)
+        self.folder.joinpath("0008/mine.svg").write_text("mine")
+        self.assertEqual(desk(["replay", *DAY, str(self.folder), "--moments", "0", "--force"]).status, 0)
+        self.assertEqual(sorted(it.name for it in self.folder.iterdir()), ["0000", "0008", "mine"])
+        self.assertEqual([it.name for it in self.folder.joinpath("0008").iterdir()], ["mine.svg"])
 
     def test_what_the_program_refuses_has_its_row(self) -> None:
         log = self.folder / "log.csv"

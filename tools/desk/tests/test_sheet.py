@@ -101,13 +101,14 @@ class Refused(InFolder):
             ("eta", "+2 10:00", "the last is +1 23:59:59"),
             ("weight", "1.5", "a whole number from 1 to 100"),
             ("weight", "0", "a whole number from 1 to 100"),
+            ("windows", "11:00 - 10:00", '"11:00 - 10:00"; wanted: the first second, then the last'),
             ("weight", "9" * 5000, "a whole number from 1 to 100"),
             ("windows", "11:00-10:30", "the first second, then the last"),
             ("windows", "23:55-00:20", "+1 00:20:00"),
             ("windows", "10:30-", "both ends are wanted"),
             ("windows", "10:30", "one hyphen stands between"),
             ("windows", "10:30-13:00", "at most 7200 seconds together; these have 9001"),
-            ("windows", "10:30-10:40;10:35-10:50", "share no second; it begins before 10:30:00-10:40:00 ends"),
+            ("windows", "10:30-10:40;10:35-10:50", "share no second; it begins before 10:30-10:40 ends"),
             ("windows", ";".join(["10:30-10:31"] * 5), "at most 4 windows; 5 stand there"),
             ("after", "UAE7,UAE7", "UAE7 is named twice"),
             ("after", "BAW12", "a flight cannot land before itself"),
@@ -124,6 +125,11 @@ class Refused(InFolder):
             with self.subTest(column=column, text=text[:20]):
                 self.assertEqual((answer.status, answer.out), (3, ""))
                 self.assert_said(answer.err, f"sheet.csv, row 3, {column}:", wanted)
+
+    def test_a_comma_is_no_sign_between_thousands_where_no_three_digits_follow(self) -> None:
+        answer = desk(["sheet", self.write("sheet.csv", HEADER + 'UAE7,A,"37,800","1,5",,\n')])
+        self.assert_said(answer.err, "eta", "a clock time as 10:30")
+        self.assertNotIn("write 15", answer.err)
 
     def test_all_at_once(self) -> None:
         sheet = HEADER + "uae7,H,10.30,0,x,y\n\nBAW12,B,10:30,1,,\nBAW12,B,10:31,1,,\nAFR22,B,10:31,1,,EZY81,BAW12\n"
@@ -172,6 +178,9 @@ class Doubtful(InFolder):
         rows = (TEN / "flights.csv").read_text().replace("AFR22,B,38100", "AFR22,B,3810").partition("\n")[2]
         self.assert_warned(rows, "row 10, eta", "01:03:30 (3810)", f"warned above {doubts.MOST_GAP}")
         self.assert_warned(rows, "row 10, windows", f"warned above {doubts.LATEST_WINDOW}")
+
+    def test_clock_times_without_a_colon(self) -> None:
+        self.assert_warned("UAE7,A,1030,1,,\nBAW12,B,1031,1,,\n", "eta", "before 00:40:00", "has a colon, as 10:30")
 
     def test_windows_far_from_the_estimate(self) -> None:
         self.assert_warned(

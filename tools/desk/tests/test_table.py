@@ -1,8 +1,10 @@
 """Tables, comparisons, and why a bank is infeasible, against answers made by hand."""
 
 import csv
+import io
 import tempfile
 import unittest
+import unittest.mock
 from dataclasses import replace
 from pathlib import Path
 
@@ -59,7 +61,8 @@ def flight(callsign: str, eta: int, category: str = "A", length: int = 1_800, **
 
 def aerodrome(**changed) -> Aerodrome:
     """An aerodrome with a table whose columns differ."""
-    return Aerodrome(**{"version": 2, "k": 0, "freeze": 100, "objective": Objective.MAKESPAN, "table": TABLE, **changed})
+    usual = {"version": 2, "k": 0, "freeze": 100, "objective": Objective.MAKESPAN, "table": TABLE}
+    return Aerodrome(**{**usual, **changed})
 
 
 class Rows(unittest.TestCase):
@@ -67,11 +70,17 @@ class Rows(unittest.TestCase):
 
     def test_frozen_flights_do_not_move_and_others_follow(self) -> None:
         flights = [flight("AA1", 1_000), flight("BB1", 1_010, "B"), flight("AA2", 1_020), flight("CC1", 1_030)]
-        shown = Plan(Objective.MAKESPAN, 1_300, (Landing("AA2", 1_050, True), Landing("BB1", 1_120), Landing("AA1", 1_300)))
+        landings = (Landing("AA2", 1_050, True), Landing("BB1", 1_120), Landing("AA1", 1_300))
+        shown = Plan(Objective.MAKESPAN, 1_300, landings)
         rows = landed(aerodrome(clock=1_000, frozen=(Frozen("AA2", 1_050),)), flights, shown)
         self.assertEqual(
             [(it.callsign, it.moved, it.behind, it.owed, it.delay) for it in rows],
-            [("AA2", None, None, None, 30), ("BB1", -1, 70, 70, 110), ("AA1", 1, 180, 60, 300), ("CC1", None, None, None, None)],
+            [
+                ("AA2", None, None, None, 30),
+                ("BB1", -1, 70, 70, 110),
+                ("AA1", 1, 180, 60, 300),
+                ("CC1", None, None, None, None),
+            ],
         )
 
     def test_a_flight_that_is_not_there(self) -> None:
@@ -110,6 +119,14 @@ class Commands(unittest.TestCase):
         answer = desk(["table", *BROKEN])
         self.assertEqual((answer.status, answer.err), (1, ""))
         self.assertEqual(answer.out, BROKEN_TABLE)
+
+    def test_a_plan_of_the_input(self) -> None:
+        with unittest.mock.patch("sys.stdin", io.TextIOWrapper(io.BytesIO(b"makespan x\nland A\n"))):
+            answer = desk(["table", *BROKEN[:2], "-"])
+        self.assertEqual((answer.status, answer.out), (3, ""))
+        places = [it.partition(":")[0] for it in answer.err.splitlines()]
+        self.assertEqual(places, ["the input, row 1", "the input, row 2"])
+        self.assertEqual(desk(["compare", *BROKEN[:2], "-", "--plan", "-"]).status, 3)
 
     def test_a_table_as_csv_by_first(self) -> None:
         answer = desk(["table", "--csv", *BROKEN[:2]])
