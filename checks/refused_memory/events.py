@@ -1,4 +1,4 @@
-"""Refuses each allocation of a day's events in turn: events.py PROGRAM, the built tests of taken_back.
+"""Refuses each allocation of a day's events in turn: events.py PROGRAM, the built tests of gate_tests.
 
 The day has an event of each kind. Where an allocation of an event is refused, the test finds the situation and the plan shown
 as they were, makes the event again, and ends well; where one of its own is refused, it ends without a word of an event. Goes on

@@ -9,7 +9,7 @@ ghost use Rattle.landing_rules.specs.Sound.{IsSound};
 ghost use Rattle.sequencer.specs.Frozen.{delay_of, frozen_shown, greatest_delay, later_of, latest, BeginsWithFrozen, HasSmallDelay};
 
 use plan_file::Plan;
-use situations::{Active, View};
+use situations::{Active, Situation};
 use wake_table::Category;
 
 // The later of the flight, where it is frozen, and the one found behind it.
@@ -40,7 +40,7 @@ fn latest(flights: &[Active]) -> Option<(u32, Category)>
 }
 
 // The frozen flight that lands last, at this second. It is looked for from the back, since it mostly arrived late.
-fn latest_at(situation: &View<'_>, second: u32) -> Option<(u32, Category)>
+fn latest_at(situation: &Situation, second: u32) -> Option<(u32, Category)>
     requires sound { IsSound situation.now }
     requires second { option_map (λ l. l.0) (last_of (in_landing_order (frozen_landings
         situation.now))) ≡ Some second }
@@ -57,7 +57,7 @@ fn latest_at(situation: &View<'_>, second: u32) -> Option<(u32, Category)>
 /// The frozen flight that lands last, by its second and category. A plan may be given that begins with the frozen landings,
 /// so many.
 pub(crate) fn last_frozen(
-    situation: &View<'_>,
+    situation: &Situation,
     front: Option<&Plan>,
     count: usize,
 ) -> Option<(u32, Category)>

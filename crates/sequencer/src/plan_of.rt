@@ -11,13 +11,13 @@ use cps_problem::{Planner, Problem, Schedule};
 use extract_plan::value_of;
 use landing_joint::laws::problem_stands_for_situation;
 use plan_file::Plan;
-use situations::View;
+use situations::Situation;
 use std::alloc::{AllocError, Global};
 
 // The plan of a feasible list of the problem of a situation.
 fn joined_plan(
     alloc: Global,
-    situation: &View<'_>,
+    situation: &Situation,
     problem: &Problem,
     schedule: &Schedule,
 ) -> Result<Plan, AllocError>
@@ -42,9 +42,7 @@ impl<P: Planner> Sequencer<P> {
         ensures { IfOk result (λ plan. plan ≡ shown_plan self.now.state.situation (joined
             self.now.state.situation schedule.now)) }
     {
-        let problem = self.problem();
-        let view = self.situation.view();
-        let plan = joined_plan(alloc, &view, problem, schedule)?;
+        let plan = joined_plan(alloc, &self.situation, self.problem(), schedule)?;
         Ok(plan)
     }
 }

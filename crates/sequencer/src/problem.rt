@@ -15,12 +15,12 @@ use crate::predecessors::pairs_of;
 use crate::waiting::all_waiting;
 use cps_problem::{Head, Objective, Problem};
 use plan_file::Plan;
-use situations::{Active, Situation, View};
+use situations::{Active, Situation};
 use std::alloc::{AllocError, Global};
 use wake_table::Category;
 
 // What the frozen landings cost, and 0 for the makespan.
-fn base(situation: &View<'_>, flights: &[Active]) -> u64
+fn base(situation: &Situation, flights: &[Active]) -> u64
     requires flights { flights.now ≡ situation.now.active }
     requires sound { IsSound situation.now }
     ensures { result ≡ frozen_cost situation.now.aerodrome.objective
@@ -33,7 +33,7 @@ fn base(situation: &View<'_>, flights: &[Active]) -> u64
 }
 
 // What the waiting flights share.
-fn head(situation: &View<'_>, flights: &[Active], last: Option<(u32, Category)>) -> Head
+fn head(situation: &Situation, flights: &[Active], last: Option<(u32, Category)>) -> Head
     requires flights { flights.now ≡ situation.now.active }
     requires sound { IsSound situation.now }
     ensures fixed { situation.now.aerodrome
@@ -64,7 +64,7 @@ fn head(situation: &View<'_>, flights: &[Active], last: Option<(u32, Category)>)
 // the frozen landings.
 pub(crate) fn posed(
     alloc: Global,
-    situation: &View<'_>,
+    situation: &Situation,
     front: Option<&Plan>,
 ) -> Result<(Problem, Vec<usize>), AllocError>
     requires sound { IsSound situation.now }
@@ -84,7 +84,7 @@ pub(crate) fn posed(
 }
 
 // The places of the waiting flights of a sound situation by rank.
-pub(crate) fn ranked_places(alloc: Global, situation: &View<'_>) -> Result<Vec<usize>, AllocError>
+pub(crate) fn ranked_places(alloc: Global, situation: &Situation) -> Result<Vec<usize>, AllocError>
     requires { IsSound situation.now }
     ensures { IfOk result (λ places. ArePlacesByRank situation.now places.items) }
 {
@@ -98,7 +98,6 @@ pub fn problem_of(alloc: Global, situation: &Situation) -> Result<Problem, Alloc
     requires { IsSound situation.now }
     ensures { IfOk result (IsProblemOf situation.now) }
 {
-    let view = situation.view();
-    let (problem, _) = posed(alloc, &view, None)?;
+    let (problem, _) = posed(alloc, situation, None)?;
     Ok(problem)
 }

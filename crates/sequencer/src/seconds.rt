@@ -6,7 +6,7 @@ ghost use Rattle.landing_rules.specs.Sound.{IsSound};
 ghost use Rattle.sequencer.specs.Ranked.{ArePlacesByRank};
 
 use cps_problem::Schedule;
-use situations::{Active, View};
+use situations::{Active, Situation};
 use std::alloc::{AllocError, Global};
 
 // The seconds at which the frozen flights land, and 0 for each that waits.
@@ -24,7 +24,7 @@ fn frozen_seconds(alloc: Global, flights: &[Active]) -> Result<Vec<u32>, AllocEr
 /// flight stands at the place given for it.
 pub(crate) fn joined_seconds(
     alloc: Global,
-    situation: &View<'_>,
+    situation: &Situation,
     places: &[usize],
     schedule: &Schedule,
 ) -> Result<Vec<u32>, AllocError>

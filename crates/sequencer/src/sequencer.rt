@@ -30,7 +30,7 @@ use landing_joint::laws::{
 };
 use plan_file::Plan;
 use replan::AnyKept;
-use situations::{BeginFault, Refusal, Situation, View};
+use situations::{BeginFault, Refusal, Situation};
 use std::alloc::{AllocError, Global};
 use std::marker::Model;
 use std::thread::Threads;
@@ -95,7 +95,7 @@ fn plan_in(shown: &Option<Shown>) -> Option<&Plan>
 // What is shown for a best and tight schedule by rank.
 fn shown_schedule(
     alloc: Global,
-    situation: &View<'_>,
+    situation: &Situation,
     front: Option<&Plan>,
     problem: &Problem,
     places: &[usize],
@@ -120,7 +120,7 @@ fn shown_schedule(
 // What is shown for the planner's answer.
 fn shown_answer(
     alloc: Global,
-    situation: &View<'_>,
+    situation: &Situation,
     front: Option<&Plan>,
     problem: &Problem,
     places: &[usize],
@@ -148,8 +148,8 @@ fn shown_answer(
 
 // A situation, and a plan that begins with its frozen landings, where one is at hand.
 #[derive(Clone, Copy)]
-struct Asked<'a, 'v, 'p> {
-    situation: &'a View<'v>,
+struct Asked<'a, 'p> {
+    situation: &'a Situation,
     front: Option<&'p Plan>,
 }
 
@@ -157,7 +157,7 @@ struct Asked<'a, 'v, 'p> {
 fn planned<R: Threads + Sync, G: Gate + Sync, L: Ledger>(
     rt: &R,
     alloc: Global,
-    asked: Asked<'_, '_, '_>,
+    asked: Asked<'_, '_>,
     planner: &mut AnyKept,
     gate: &G,
     steps: &mut Steps<L>,
@@ -232,7 +232,7 @@ impl<P: Planner> Sequencer<P> {
 }
 
 impl Sequencer<AnyKept> {
-    // Goes on by an accepted event: the situation changes where it stands, and where its plan wants memory it changes back.
+    // Goes on by an accepted event: the situation after it and its plan are made aside, and then take the place of these.
     fn advance<R: Threads + Sync, G: Gate + Sync, L: Ledger>(
         &mut self,
         rt: &R,
@@ -253,27 +253,18 @@ impl Sequencer<AnyKept> {
     {
         every_step_keeps_soundness();
         clock_keeps_plans();
-        let change = self
+        let next = self
             .situation
-            .change(alloc, seconds_of(&self.shown), event)?;
-        let next = self.situation.view_after(&change);
-        let front = plan_in(&self.shown);
+            .after(alloc, seconds_of(&self.shown), event)?;
         let asked = Asked {
             situation: &next,
-            front,
+            front: plan_in(&self.shown),
         };
-        match planned(rt, alloc, asked, &mut self.planner, gate, steps) {
-            Ok((problem, shown)) => {
-                self.situation.keep(change);
-                self.shown = shown;
-                self.problem = problem;
-                Ok(())
-            }
-            Err(fault) => {
-                self.situation.take_back(change);
-                Err(fault)
-            }
-        }
+        let (problem, shown) = planned(rt, alloc, asked, &mut self.planner, gate, steps)?;
+        self.situation = next;
+        self.shown = shown;
+        self.problem = problem;
+        Ok(())
     }
 
     /// Answers an event, and where it is accepted makes one step by it: the situation changes as the rules say, and a
@@ -328,9 +319,8 @@ impl Sequencer<AnyKept> {
         ensures steps { IfOk result (λ s. (n : ℕ) × IsDue (problem_held planner) s.problem n
             × (L.count steps.new ≡ raised_by n (L.count steps.old))) }
     {
-        let view = situation.view();
         let asked = Asked {
-            situation: &view,
+            situation: &situation,
             front: None,
         };
         let (problem, shown) = planned(rt, alloc, asked, &mut planner, gate, steps)?;

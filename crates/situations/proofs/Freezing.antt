@@ -1,14 +1,12 @@
 -- Freezing one flight after another freezes each.
 use Rattle.std.proofs.Common.{rules, ◌≡◌, ℕ, zero, suc, ◌+◌, ◌<◌, Bool, true, false, cond, ◌&&◌, List, [], ◌∷◌, ◌++◌}
-use Rattle.std.proofs.Common.{length, map, set, take, Option, Some, None, get_or, refl, ap, ap₂, ◌∙◌, arith}
+use Rattle.std.proofs.Common.{length, map, set, take, Option, Some, None, get_or, refl, arith}
 use Rattle.std.proofs.lemmas.Grind.{common_steps}
-use Rattle.std.specs.Prelude.{nat_lt, zip, is_none, filter}
-use Rattle.landing_rules.specs.Flights.{Callsign, Flight, Active, Aerodrome, Landing, landing, landings}
-use Rattle.landing_rules.specs.Events.{after_clock, look_up, passed_after, freezes}
+use Rattle.std.specs.Prelude.{zip, is_none, filter}
+use Rattle.landing_rules.specs.Flights.{Flight, Active, Aerodrome, Landing, landing, landings}
+use Rattle.landing_rules.specs.Events.{after_clock, passed_after, freezes}
 use Rattle.situations.specs.Freezes.{arrival, arrival_if, freezing, count_after, frozen_one, IsFreezeOf}
-use Rattle.situations.specs.Named.{waiting_again}
 use Rattle.situations.specs.declared.freeze.Freeze.{Freeze}
-use Rattle.situations.proofs.Named.{listed, noted}
 
 -- ---- one flight after another
 
@@ -35,34 +33,6 @@ module _ {B : Type 0} (f : Active → B → Active) where
   turned-all i (x ∷ xs) [] n l = cc
   turned-all zero (x ∷ xs) (y ∷ ys) n l = cc
   turned-all (suc i) (x ∷ xs) (y ∷ ys) n l = cc (turned-all i xs ys (omega arith) (omega arith))
-
--- ---- and back
-
--- the flights that waited wait again, each with its count; a frozen one has not changed
-pub waiting_back : (a : Aerodrome) (h : ℕ) (all : List Landing) (cs : List (Callsign × ℕ))
-    (xs : List Active) (ts : List ℕ) → length xs ≡ length ts →
-    ((i : ℕ) (d : Active) → i < length xs → look_up (get_or xs i d).flight.callsign cs ≡ noted (get_or xs i d))
-    → listed waiting_again cs (map (after_clock a h all) (landings xs ts)) ≡ xs
-waiting_back a h all cs [] ts n own = refl
-waiting_back a h all cs (x ∷ xs) [] n own = cc
-waiting_back a h all cs (x ∷ xs) (t ∷ ts) n own =
-    ap₂ (λ (y : Active) (l : List Active). y ∷ l) (go x.frozen refl (nat_lt t h))
-    (waiting_back a h all cs xs ts (omega arith) (λ i d lt. own (suc i) d (omega arith)))
-  where
-    again : Active → Active
-    again y = waiting_again (look_up y.flight.callsign cs) y
-
-    go : (o : Option ℕ) → x.frozen ≡ o → (b : Bool) →
-        again (cond (is_none o && b) (record { flight = x.flight; frozen = Some t; passed = 0 })
-        (cond (is_none o) (record { flight = x.flight; frozen = None; passed = passed_after a h all (landing x t) })
-        (record { flight = x.flight; frozen = o; passed = x.passed }))) ≡ record x { frozen = o }
-    go (Some s) e b = ap (λ p. waiting_again p (record x { frozen = Some s })) (own zero x (omega arith)
-        ∙ ap (λ o. cond (is_none o) (Some x.passed) None) e)
-    go None e true = ap (λ p. waiting_again p (record x { frozen = Some t; passed = 0 }))
-        (own zero x (omega arith) ∙ ap (λ o. cond (is_none o) (Some x.passed) None) e)
-    go None e false = ap (λ p. waiting_again p
-        (record x { frozen = None; passed = passed_after a h all (landing x t) })) (own zero x (omega arith)
-        ∙ ap (λ o. cond (is_none o) (Some x.passed) None) e)
 
 -- ---- what freezes
 

@@ -1,30 +1,25 @@
 -- What a look-up by callsign finds, and what a change of the map makes of the flights in order of arrival.
-use Rattle.std.proofs.Common.{rules, ◌≡◌, ◌≢◌, ℕ, zero, suc, ◌+◌, ◌-◌, ◌<◌, Bool, true, false, cond, not, List, [], ◌∷◌}
-use Rattle.std.proofs.Common.{◌++◌, ◌||◌, ◌&&◌, length, map, filter, take, set, get_or, insert, remove, slice_get}
-use Rattle.std.proofs.Common.{Option, Some, None, is_some, refl, sym, ap, subst, ◌∙◌, arith}
+use Rattle.std.proofs.Common.{rules, ◌≡◌, ◌≢◌, ℕ, zero, suc, ◌+◌, ◌<◌, Bool, true, false, cond, not, List, [], ◌∷◌}
+use Rattle.std.proofs.Common.{◌++◌, ◌||◌, ◌&&◌, length, map, filter, take, set, get_or}
+use Rattle.std.proofs.Common.{Option, Some, None, is_some, refl, sym, ap, ◌∙◌, arith}
 use Rattle.std.proofs.lemmas.Grind.{common_steps}
 use Rattle.std.specs.Prelude.{AllPairs, find}
 use Rattle.std.specs.List.{IsDistinct, list_any}
 use Rattle.std.specs.Option.{option_map_or}
-use Rattle.std.specs.Map.{keys_of, values_of, lookup, set_value}
+use Rattle.std.specs.Map.{keys_of, values_of, lookup, remove_entry, set_value}
 use Rattle.std.specs.Str.{bytes_eq}
-use Rattle.std.proofs.lemmas.List.{get_or-map, get_or-take, length-map, length-take, length_push, map-append, take_more}
-use Rattle.std.proofs.lemmas.List.Edits.{length-remove}
+use Rattle.std.proofs.lemmas.List.{get_or-map, get_or-take, length-map, length-take, map-append, take_more}
 use Rattle.std.proofs.lemmas.Map.Keys.{apart_from_distinct}
-use Rattle.std.proofs.lemmas.Option.{slice_get_within, get_or_from_slice_get, same_Some}
-use Rattle.indexmap.specs.IndexMap.{move_index, set_value_at}
-use Rattle.indexmap.proofs.MoveLemmas.{push_moved}
-use Rattle.indexmap.proofs.RemoveLemmas.{moved_last}
-use Rattle.indexmap.proofs.SetLemmas.{map-move}
+use Rattle.indexmap.specs.IndexMap.{set_value_at}
 use Rattle.landing_rules.specs.Flights.{Active, Callsign}
-use Rattle.landing_rules.specs.Events.{Revision, named, revise, revised, look_up, newcomer}
+use Rattle.landing_rules.specs.Events.{Revision, named, revised, look_up, newcomer}
 use Rattle.arrivals.specs.declared.aerodrome.Aerodrome.{Aerodrome}
 use Rattle.arrivals.specs.declared.flight.Flight as files
 use Rattle.arrivals.specs.Seen.{flight_of}
 use Rattle.situations.specs.Named.{with_count, with_second}
 use Rattle.situations.specs.Opened.{counts_in, newcomers, opened, seconds_in}
 use Rattle.situations.specs.Seen.{AreApart}
-use Rattle.situations.proofs.Apart.{at_named, name_of, other, others, tail_apart}
+use Rattle.situations.proofs.Apart.{at_named, name_of, others, tail_apart}
 use Rattle.situations.proofs.Callsigns.{bytes_eq-true}
 
 abbrev pub Entry : Type 0
@@ -128,38 +123,8 @@ module _ (c : Callsign) (g : Active → Active) where
       values_of fs ≡ map (at_named c g) (values_of es)
   changed_one es fs a x h distinct n new e = search (rules, one_set, keyed_apart)
 
--- set anew of the flight of the callsign, which keeps it, and then set back, the flights are as they were
-set_back : (c : Callsign) (g h : Active → Active) → ((a : Active) → name_of a ≡ name_of (g a)) → (xs : List Active)
-    (a : Active) → AreApart xs → find (named c) xs ≡ Some a → h (g a) ≡ a
-    → map (at_named c h) (map (at_named c g) xs) ≡ xs
-set_back c g h names [] a apart f e = refl
-set_back c g h names (x ∷ xs) a apart f e = go (named c x) refl f
-    (set_back c g h names xs a (tail_apart x xs apart))
-  where
-    go : (b : Bool) → named c x ≡ b → cond b (Some x) (find (named c) xs) ≡ Some a
-        → (find (named c) xs ≡ Some a → h (g a) ≡ a → map (at_named c h) (map (at_named c g) xs) ≡ xs)
-        → map (at_named c h) (map (at_named c g) (x ∷ xs)) ≡ x ∷ xs
-    go true is m ih =
-        let none = none_behind c x xs apart is in
-        let there : named c (g x) ≡ true = ap (λ n. bytes_eq n c) (sym (names x)) ∙ is in
-        let back : h (g x) ≡ x = subst (λ y. h (g y) ≡ y) (sym (same_Some x a m)) e in
-        ap (λ y. map (at_named c h) (y ∷ map (at_named c g) xs)) (ap (λ b. cond b (g x) x) is)
-        ∙ ap (λ y. y ∷ map (at_named c h) (map (at_named c g) xs)) (ap (λ b. cond b (h (g x)) (g x)) there ∙ back)
-        ∙ ap (λ l. x ∷ map (at_named c h) l) (others c g xs none) ∙ ap (λ l. x ∷ l) (others c h xs none)
-    go false is m ih =
-        ap (λ y. map (at_named c h) (y ∷ map (at_named c g) xs)) (other c g x is)
-        ∙ ap (λ y. y ∷ map (at_named c h) (map (at_named c g) xs)) (other c h x is) ∙ ap (λ l. x ∷ l) (ih m e)
-
 pub revision_keeps_name : (r : Revision) (a : Active) → name_of a ≡ (revised r a.flight).callsign
 revision_keeps_name r a = grind arith
-
--- what was revised is revised back
-pub revised_back : (c : Callsign) (r back : Revision) (xs : List Active) (a : Active) → AreApart xs
-    → find (named c) xs ≡ Some a → revised back (revised r a.flight) ≡ a.flight
-    → map (revise c back) (map (revise c r) xs) ≡ xs
-revised_back c r back xs a apart f e =
-    set_back c (λ x. record x { flight = revised r x.flight }) (λ x. record x { flight = revised back x.flight })
-    (revision_keeps_name r) xs a apart f (ap (λ f. record a { flight = f }) e)
 
 -- ---- a flight less
 
@@ -171,44 +136,16 @@ none_gone c (x ∷ xs) none =
     ∙ ap (λ b. cond (not b) (x ∷ filter (λ a. not (named c a)) xs) (filter (λ a. not (named c a)) xs))
     (sym (none zero x (omega arith)))
 
--- the list without its flight of the callsign
-pub one_gone : (c : Callsign) (xs : List Active) (i : ℕ) (a : Active) → AreApart xs → slice_get xs i ≡ Some a
-    → named c a ≡ true → remove xs i ≡ filter (λ a. not (named c a)) xs
-one_gone c [] i a apart at is = cc
-one_gone c (x ∷ xs) zero a apart at is = search (rules, none_gone, none_behind)
-one_gone c (x ∷ xs) (suc i) a apart at is =
-    let lt = slice_get_within (x ∷ xs) (suc i) a at in
-    let here : get_or (x ∷ xs) (suc i) a ≡ a = get_or_from_slice_get (x ∷ xs) (suc i) a a at in
-    ap (λ l. x ∷ l) (one_gone c xs i a (tail_apart x xs apart) at is)
-    ∙ ap (λ b. cond (not b) (x ∷ filter (λ a. not (named c a)) xs) (filter (λ a. not (named c a)) xs))
-    (sym (no lt here (named c x) refl))
-  where
-    no : suc i < length (x ∷ xs) → get_or (x ∷ xs) (suc i) a ≡ a → (b : Bool) → named c x ≡ b → named c x ≡ false
-    no lt here true e = absurd (apart zero (suc i) a (omega arith) lt (bytes_eq-true x.flight.callsign c e
-        ∙ sym (bytes_eq-true a.flight.callsign c is) ∙ ap name_of (sym here)))
-    no lt here false e = e
+-- the flights of a map without the entry of the callsign
+pub values_gone : (c : Callsign) (es : List Entry) → Keyed es → AreApart (values_of es)
+    → values_of (remove_entry (bytes_eq c) es) ≡ filter (λ a. not (named c a)) (values_of es)
+values_gone c [] h apart = refl
+values_gone c (e ∷ es) h apart = search
+    (rules, none_gone, none_behind, values_gone c es (tail_keyed e es h) (tail_apart e.1 (values_of es) apart))
 
--- what was taken out goes in again
-put_back : {X : Type 0} (xs : List X) (i : ℕ) (x : X) → slice_get xs i ≡ Some x → insert (remove xs i) i x ≡ xs
-put_back [] i x at = cc
-put_back (y ∷ ys) zero x at = cc
-put_back (y ∷ ys) (suc i) x at = cc (put_back ys i x at)
-
--- the one at place i, moved last
-module _ {X : Type 0} (xs : List X) (i : ℕ) (x : X) (at : slice_get xs i ≡ Some x) where
-  moved : move_index xs i (length xs - 1) ≡ remove xs i ++ x ∷ []
-  moved = moved_last xs i x at
-
-  -- and goes back
-  pub moved_back : move_index (move_index xs i (length xs - 1)) (length (move_index xs i (length xs - 1)) - 1) i ≡ xs
-  moved_back =
-      let lt = slice_get_within xs i x at in
-      let n = length-remove xs i lt in
-      let m : length (remove xs i ++ x ∷ []) - 1 ≡ length (remove xs i) = omega (arith, length_push (remove xs i) x)
-      in search (rules, moved, push_moved, put_back)
-
-  pub moved_long : length (move_index xs i (length xs - 1)) ≡ length xs
-  moved_long = search (rules, slice_get_within, length-remove, length_push, moved)
+pub keyed_gone : (c : Callsign) (es : List Entry) → Keyed es → Keyed (remove_entry (bytes_eq c) es)
+keyed_gone c [] h = refl
+keyed_gone c (e ∷ es) h = search (rules, tail_keyed e es h, keyed_gone c es (tail_keyed e es h))
 
 -- ---- by place
 
@@ -219,21 +156,10 @@ values_set (e ∷ es) (suc i) a = cc (values_set es i a)
 
 -- ---- the keys stay those of the flights
 
-pub values_moved : (es fs : List Entry) (a b : ℕ) → fs ≡ move_index es a b
-    → values_of fs ≡ move_index (values_of es) a b
-values_moved es fs a b e = search (rules, map-move)
-
-pub keyed_moved : (es fs : List Entry) (a b : ℕ) → fs ≡ move_index es a b → Keyed es → Keyed fs
-keyed_moved es fs a b e h = search (rules, map-move)
-
 -- where the keys stay, and the flights keep their callsigns
 pub keyed_still : (es fs : List Entry) (xs : List Active) → keys_of fs ≡ keys_of es → values_of fs ≡ xs
     → map name_of (values_of es) ≡ map name_of xs → Keyed es → Keyed fs
 keyed_still es fs xs k v names h = cc
-
-pub some_from : {X : Type 0} (o : Option X) → is_some o ≡ true → (x : X) × (o ≡ Some x)
-some_from None e = cc
-some_from (Some x) e = (x, refl)
 
 -- ---- the opening
 

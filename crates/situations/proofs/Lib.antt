@@ -1,6 +1,5 @@
 pub mod Apart
 pub mod Callsigns
-pub mod Changed
 pub mod ChangedFlights
 pub mod Finds
 pub mod Firsts

@@ -1,21 +1,14 @@
 -- What is changed by a list of callsigns, one entry after another.
-use Rattle.std.proofs.Common.{rules, ◌≡◌, ℕ, ◌<◌, Bool, true, false, cond, List, [], ◌∷◌, map, length, get_or, Option}
-use Rattle.std.proofs.Common.{Some, None, refl, ap, ◌∙◌, arith, zero, suc, drop, ◌-◌, ◌≤◌}
+use Rattle.std.proofs.Common.{rules, ◌≡◌, ℕ, ◌<◌, cond, List, [], ◌∷◌, map, length, get_or, Option}
+use Rattle.std.proofs.Common.{Some, None, refl, arith, drop, ◌-◌, ◌≤◌}
 use Rattle.std.proofs.lemmas.Grind.{common_steps}
 use Rattle.std.proofs.Math.Seq.{drop-length}
 use Rattle.std.proofs.lemmas.List.{drop_more}
-use Rattle.std.specs.Prelude.{filter}
-use Rattle.std.specs.Str.{bytes_eq}
-use Rattle.landing_rules.specs.Flights.{Active, Callsign, Situation, is_waiting}
+use Rattle.landing_rules.specs.Flights.{Active, Callsign, Situation}
 use Rattle.landing_rules.specs.Events.{look_up, named}
 use Rattle.arrivals.specs.declared.frozen_list.FrozenLanding.{FrozenLanding}
-use Rattle.situations.specs.Changes.{counts_of}
 use Rattle.situations.specs.Opened.{seconds_in}
-use Rattle.situations.specs.Named.{counted, frozen_so, waiting_again, with_count, with_second}
-use Rattle.situations.specs.Seen.{AreApart}
-use Rattle.situations.proofs.Apart.{tail_apart}
-use Rattle.situations.proofs.Callsigns.{bytes_eq-true}
-use Rattle.situations.proofs.Keyed.{none_behind}
+use Rattle.situations.specs.Named.{counted, frozen_so, with_count, with_second}
 
 -- each flight as the first entry of its callsign says
 abbrev pub listed : (Option ℕ → Active → Active) → List (Callsign × ℕ) → List Active → List Active
@@ -62,48 +55,6 @@ pub count_first : (c : Callsign) (n : ℕ) (o : Option ℕ) (a : Active)
     → counted c n (with_count o a) ≡ with_count (cond (named c a) (Some n) o) a
 count_first c n None a = search rules
 count_first c n (Some t) a = search rules
-
-pub again_first : (c : Callsign) (n : ℕ) (o : Option ℕ) (a : Active)
-    → counted c n (frozen_so c None (waiting_again o a)) ≡ waiting_again (cond (named c a) (Some n) o) a
-again_first c n o a = search rules
-
--- ---- the flights that waited
-
-abbrev pub noted : Active → Option ℕ
-noted a = cond (is_waiting a) (Some a.passed) None
-
--- none of the counts is that of a callsign that no flight has
-none_counted : (c : Callsign) (xs : List Active)
-    → ((j : ℕ) (d : Active) → j < length xs → named c (get_or xs j d) ≡ false) → look_up c (counts_of xs) ≡ None
-none_counted c [] none = refl
-none_counted c (x ∷ xs) none = go (is_waiting x) (none_counted c xs (λ j d lt. none (suc j) d (omega arith)))
-  where
-    go : (b : Bool) → look_up c (counts_of xs) ≡ None
-        → look_up c (map (λ a. (a.flight.callsign, a.passed))
-        (cond b (x ∷ filter is_waiting xs) (filter is_waiting xs))) ≡ None
-    go true ih = ap (λ t. cond t (Some x.passed) (look_up c (counts_of xs))) (none zero x (omega arith)) ∙ ih
-    go false ih = ih
-
--- each flight that waits has its own count, and the others have none
-pub own_count : (xs : List Active) → AreApart xs → (i : ℕ) (d : Active) → i < length xs
-    → look_up (get_or xs i d).flight.callsign (counts_of xs) ≡ noted (get_or xs i d)
-own_count [] apart i d lt = absurd (omega arith)
-own_count (x ∷ xs) apart zero d lt = search (rules, none_counted, none_behind)
-own_count (x ∷ xs) apart (suc i) d lt = go (is_waiting x) (own_count xs (tail_apart x xs apart) i d (omega arith))
-  where
-    y : Active
-    y = get_or xs i d
-
-    other : (b : Bool) → bytes_eq x.flight.callsign y.flight.callsign ≡ b → b ≡ false
-    other true e = absurd (apart zero (suc i) d (omega arith) lt (bytes_eq-true x.flight.callsign y.flight.callsign e))
-    other false e = refl
-
-    go : (b : Bool) → look_up y.flight.callsign (counts_of xs) ≡ noted y →
-        look_up y.flight.callsign (map (λ a. (a.flight.callsign, a.passed))
-        (cond b (x ∷ filter is_waiting xs) (filter is_waiting xs))) ≡ noted y
-    go true ih = ap (λ t. cond t (Some x.passed) (look_up y.flight.callsign (counts_of xs)))
-        (other (bytes_eq x.flight.callsign y.flight.callsign) refl) ∙ ih
-    go false ih = ih
 
 -- ---- the opening
 

@@ -1,7 +1,6 @@
 -- What a situation is to the rules, what it answers, and how it changes.
 pub mod Answers
 pub mod Begun
-pub mod Changes
 pub mod Finds
 pub mod Freezes
 pub mod Named

@@ -22,8 +22,3 @@ with_second (Some second) a = record a { frozen = Some second }
 abbrev pub with_count : Option ℕ → Active → Active
 with_count None a = a
 with_count (Some count) a = record a { passed = count }
-
--- it waits, and so many have passed it
-abbrev pub waiting_again : Option ℕ → Active → Active
-waiting_again None a = a
-waiting_again (Some count) a = record a { frozen = None; passed = count }

@@ -6,7 +6,6 @@ use Rattle.cps_base.specs.Limits.{greatest_k, longest_freeze}
 use Rattle.landing_rules.specs.Rules.{last_second}
 use Rattle.situations.specs.declared.situation.Fixed.{Fixed}
 use Rattle.situations.specs.declared.situation.Situation.TheInside.{Inside}
-use Rattle.situations.specs.declared.view.View.TheInside as view
 
 abbrev pub fixed_of : Fixed → rules.Aerodrome
 fixed_of f = record { k = f.k; freeze = f.freeze; objective = f.objective; table = f.table; carry = f.carry }
@@ -33,12 +32,3 @@ pub record IsInStep (s : Inside) : Type 0 where
   pub few_places : s.fixed.k ≤ greatest_k
   pub short_freeze : s.fixed.freeze ≤ longest_freeze
   pub clock : MatchOption s.clock ⊤ (λ now. now ≤ last_second)
-
-abbrev pub viewed : view.Inside → rules.Situation
-viewed v = situation_of v.fixed.now v.flights.now v.closures.now v.clock
-
--- the numbers are in their ranges
-pub record IsViewInStep (v : view.Inside) : Type 0 where
-  pub few_places : v.fixed.now.k ≤ greatest_k
-  pub short_freeze : v.fixed.now.freeze ≤ longest_freeze
-  pub clock : MatchOption v.clock ⊤ (λ now. now ≤ last_second)

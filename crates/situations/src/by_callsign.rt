@@ -1,5 +1,5 @@
 // The flights in the system by callsign: the map, look-ups, and changes of the flight that has a callsign.
-ghost use Rattle.std.specs.Prelude.{◌≡◌, ◌≢◌, None, Some, AllPairs, IfOk, IfSome, find, is_some, map, option_map};
+ghost use Rattle.std.specs.Prelude.{◌≡◌, ◌≢◌, AllPairs, IfOk, find, map, option_map};
 ghost use Rattle.std.specs.List.{list_any};
 ghost use Rattle.landing_rules.specs.Events.{named, revise, revised};
 ghost use Rattle.arrivals.specs.Seen.{revision_of};
@@ -12,7 +12,6 @@ use arrivals::{Flight, Revision};
 use cps_base::Callsign;
 use indexmap::IndexMap;
 use std::alloc::{AllocError, Global};
-use std::mem;
 
 /// The flights by callsign, in the order of their file. Each waits, and none has passed it.
 pub(crate) fn by_callsign(
@@ -29,19 +28,16 @@ pub(crate) fn by_callsign(
     Ok(active)
 }
 
-// Sets this anew of the flight. It gives what sets it back.
-fn revise(active: &mut Active, revision: &Revision) -> Revision
-    ensures new { active.new ≡ record active.old {
+// Sets this anew of the flight.
+fn revise(active: &mut Active, revision: &Revision)
+    ensures { active.new ≡ record active.old {
       flight = revised (revision_of revision.now) active.old.flight;
     } }
-    ensures back { revised (revision_of result) (revised (revision_of revision.now) active.old.flight)
-        ≡ active.old.flight }
 {
     match revision {
         Revision::Times(eta, windows) => {
-            let earlier = mem::replace(&mut active.flight.eta, *eta);
-            let windows = mem::replace(&mut active.flight.windows, windows.copy());
-            Revision::Times(earlier, windows)
+            active.flight.eta = *eta;
+            active.flight.windows = windows.copy();
         }
     }
 }
@@ -82,19 +78,16 @@ impl Situation {
         self.find(callsign).is_some()
     }
 
-    /// Sets this anew of the flight of the callsign. It gives what sets it back.
-    pub(crate) fn revise(&mut self, callsign: Callsign, revision: &Revision) -> Option<Revision>
-        ensures new { self.new ≡ record self.old {
+    /// Sets this anew of the flight of the callsign.
+    pub(crate) fn revise(&mut self, callsign: Callsign, revision: &Revision)
+        ensures { self.new ≡ record self.old {
           active = map
               (revise callsign (revision_of revision.now)) self.old.active;
         } }
-        ensures found { is_some result ≡ is_some (find (named callsign) self.old.active) }
-        ensures back { IfSome result (λ back. map (revise callsign (revision_of back))
-            self.new.active ≡ self.old.active) }
     {
         match self.active.get_mut(&callsign) {
-            None => None,
-            Some(active) => Some(revise(active, revision)),
+            None => {}
+            Some(active) => revise(active, revision),
         }
     }
 

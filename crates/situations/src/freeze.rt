@@ -3,14 +3,12 @@ ghost use Rattle.std.specs.Prelude.{◌≡◌, ◌+◌, ◌<◌, ◌≤◌, ◌+
 ghost use Rattle.std.specs.Ordering.{is_lt};
 ghost use Rattle.landing_rules.specs.Flights.{landing};
 ghost use Rattle.landing_rules.specs.Rules.{last_second, first_come_cmp};
-ghost use Rattle.landing_rules.specs.Events.{active_after_clock, look_up};
+ghost use Rattle.landing_rules.specs.Events.{active_after_clock};
 ghost use Rattle.situations.specs.Freezes.{arrival_if, freezing, behind, count_after, frozen_one, IsFreezeOf};
 ghost use Rattle.indexmap.specs.IndexMap.{keys, values};
-ghost use Rattle.situations.specs.Changes.{counts_of, IsOf};
-ghost use Rattle.situations.specs.Named.{counted, frozen_so, waiting_again};
 ghost use Rattle.situations.specs.Seen.{fixed_of};
 
-use crate::{Active, Change, Fixed, Situation};
+use crate::{Active, Fixed, Situation};
 use cps_base::Callsign;
 use indexmap::IndexMap;
 use std::alloc::{AllocError, Global};
@@ -154,80 +152,26 @@ fn freeze_each(active: &mut IndexMap<Callsign, Active>, seconds: &[u32], freeze:
     }
 }
 
-// The flight's callsign and count.
-fn count_of(active: &Active) -> (Callsign, u8)
-    ensures { result ≡ (active.now.flight.callsign, active.now.passed) }
-{
-    (active.flight.callsign, active.passed)
-}
-
 impl Situation {
-    // The flights that wait, each with its count.
-    fn counts(&self, alloc: Global) -> Result<Vec<(Callsign, u8)>, AllocError>
-        ensures { IfOk result (λ counts. counts.items ≡ counts_of self.now.active) }
-    {
-        let mut counts = Vec::new(alloc);
-        for active in self.flights() {
-            if active.frozen.is_none() {
-                counts.push(count_of(active))?;
-            }
-        }
-        Ok(counts)
-    }
-
-    // Each flight after a clock event with these seconds shown. For want of memory none changes.
+    // Each flight after a clock event with these seconds shown.
     fn freeze_by(&mut self, alloc: Global, seconds: &[u32], h: u32) -> Result<(), AllocError>
         requires { length seconds.now ≡ length self.old.active }
-        ensures new { OnOk result (self.new ≡ record self.old {
+        ensures { OnOk result (self.new ≡ record self.old {
           active = active_after_clock
               self.old.aerodrome h self.old.active (Some seconds.now);
         }) }
-        ensures unchanged { OnErr result (self.new ≡ self.old) }
     {
         let freeze = freeze_of(alloc, &self.fixed, self.flights(), seconds, h)?;
         freeze_each(&mut self.active, seconds, &freeze);
         Ok(())
     }
 
-    // The flight of the callsign waits, and has this count.
-    fn wait_one(&mut self, callsign: Callsign, count: u8)
-        ensures { self.new ≡ record self.old {
-          active = map (counted callsign count)
-              (map (frozen_so callsign None) self.old.active);
-        } }
+    // The clock stands at now.
+    fn set_clock(&mut self, now: u32)
+        requires { now ≤ last_second }
+        ensures { self.new ≡ record self.old { clock = Some now } }
     {
-        self.set_frozen(callsign, None);
-        self.set_passed(callsign, count);
-    }
-
-    // Each of these flights waits, and has its count.
-    fn wait_again(&mut self, counts: &[(Callsign, u8)])
-        ensures { self.new ≡ record self.old {
-          active = map
-              (λ a. waiting_again (look_up a.flight.callsign counts.now) a)
-              self.old.active;
-        } }
-    {
-        for i in (0..counts.len()).rev() {
-            let flight = counts[i];
-            self.wait_one(flight.0, flight.1);
-        }
-    }
-
-    // The clock stands there.
-    pub(crate) fn set_clock(&mut self, clock: Option<u32>)
-        requires { MatchOption clock ⊤ (λ now. now ≤ last_second) }
-        ensures { self.new ≡ record self.old { clock = clock } }
-    {
-        self.clock = clock;
-    }
-
-    // Where the clock stands.
-    fn clock(&self) -> Option<u32>
-        ensures value { result ≡ self.now.clock }
-        ensures within { MatchOption result ⊤ (λ now. now ≤ last_second) }
-    {
-        self.clock
+        self.clock = Some(now);
     }
 
     // The second before which a waiting flight freezes at a clock event.
@@ -238,69 +182,27 @@ impl Situation {
         now + self.fixed.freeze
     }
 
-    // The clock stands there, and each of these flights waits with its count.
-    pub(crate) fn go_back(&mut self, clock: Option<u32>, counts: &[(Callsign, u8)])
-        requires { MatchOption clock ⊤ (λ now. now ≤ last_second) }
-        ensures { self.new ≡ record self.old {
-          clock = clock;
-          active = map
-              (λ a. waiting_again (look_up a.flight.callsign counts.now) a)
-              self.old.active;
-        } }
-    {
-        self.wait_again(counts);
-        self.set_clock(clock);
-    }
-
-    // The clock stands at now, each waiting flight that lands before the horizon is frozen, and the others keep count of those
-    // that passed them. For want of memory nothing changes.
-    fn change_freeze(
-        &mut self,
-        alloc: Global,
-        now: u32,
-        seconds: &[u32],
-    ) -> Result<Change, AllocError>
-        requires whole { length seconds.now ≡ length self.old.active }
-        requires second { now ≤ last_second }
-        ensures change { IfOk result (λ change. IsOf self.old (record self.old {
-          clock = Some now;
-          active = active_after_clock self.old.aerodrome (now + self.old.aerodrome.freeze)
-              self.old.active (Some seconds.now);
-        }) change self.new) }
-        ensures unchanged { OnErr result (self.new ≡ self.old) }
-    {
-        self.known_apart();
-        let clock = self.clock();
-        let counts = self.counts(alloc)?;
-        let h = self.horizon_at(now);
-        self.freeze_by(alloc, seconds, h)?;
-        self.set_clock(Some(now));
-        Ok(Change::Freeze(clock, counts))
-    }
-
-    // The clock stands at now, and where a plan is shown flights freeze by it.
-    pub(crate) fn change_clock(
+    // The clock stands at now. Where a plan is shown, each waiting flight that it lands before the horizon is frozen, and the
+    // others keep count of those that passed them.
+    pub(crate) fn set_time(
         &mut self,
         alloc: Global,
         now: u32,
         plan: Option<&[u32]>,
-    ) -> Result<Change, AllocError>
+    ) -> Result<(), AllocError>
         requires whole { IfSome plan (λ p. length p.now ≡ length self.old.active) }
         requires second { now ≤ last_second }
-        ensures change { IfOk result (λ change. IsOf self.old (record self.old {
+        ensures { OnOk result (self.new ≡ record self.old {
           clock = Some now;
           active = active_after_clock self.old.aerodrome (now + self.old.aerodrome.freeze)
               self.old.active (option_map (λ p. p.now) plan.entry);
-        }) change self.new) }
-        ensures unchanged { OnErr result (self.new ≡ self.old) }
+        }) }
     {
-        match plan {
-            None => {
-                let clock = self.clock();
-                self.set_clock(Some(now));
-                Ok(Change::Clock(clock))
-            }
-            Some(seconds) => self.change_freeze(alloc, now, seconds),
+        if let Some(seconds) = plan {
+            let h = self.horizon_at(now);
+            self.freeze_by(alloc, seconds, h)?;
         }
+        self.set_clock(now);
+        Ok(())
     }
 }

@@ -14,14 +14,11 @@ mod refusal;
 mod refuse;
 mod separation;
 mod situation;
-mod view;
 
 pub use active::Active;
 pub use begin_fault::BeginFault;
-pub use change::Change;
 pub use open_seconds::is_open;
 pub use opening_refusal::{OpeningFault, opening_fault};
 pub use refusal::Refusal;
 pub use separation::are_apart;
 pub use situation::{Fixed, Situation};
-pub use view::View;

@@ -12,8 +12,8 @@ ghost use Rattle.situations.specs.Refused.{opening_fault};
 ghost use Rattle.indexmap.specs.IndexMap.{values};
 ghost use Rattle.situations.specs.Seen.{AreKeyed, fixed_of};
 
+use crate::Active;
 use crate::by_callsign::by_callsign;
-use crate::{Active, View};
 use arrivals::{Aerodrome, Flight, FrozenLanding, PassedCount};
 use cps_base::{Callsign, MOST_CLOSURES, MOST_PREDECESSORS, MOST_WINDOWS};
 use indexmap::IndexMap;
@@ -154,13 +154,6 @@ impl Situation {
         ensures { result.now ≡ self.now.active }
     {
         self.active.values().as_slice()
-    }
-
-    /// The situation as planning reads it.
-    pub fn view(&self) -> View<'_>
-        ensures { result ≡ self.now }
-    {
-        View::of(&self.fixed, self.flights(), &self.closures, self.clock)
     }
 
     /// The second before which no waiting flight may land: 0 without a clock second, and else at most 179,999.

@@ -84,13 +84,12 @@ fn with_closure(
     ensures { IfOk result (IsOutcomeOf aerodrome.now flights.now (Close from to)) }
 {
     every_step_keeps_soundness();
-    let mut situation = Situation::opening(alloc, aerodrome, flights)?;
+    let situation = Situation::opening(alloc, aerodrome, flights)?;
     if let Some(refusal) = closure_refusal(&situation, from, to) {
         return Ok(Outcome::Refused(refusal));
     }
-    let change = situation.change(alloc, None, &Event::Close(from, to))?;
-    situation.keep(change);
-    least_of(alloc, &situation)
+    let closed = situation.after(alloc, None, &Event::Close(from, to))?;
+    least_of(alloc, &closed)
 }
 
 // The outcome of a trial.

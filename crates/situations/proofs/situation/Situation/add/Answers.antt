@@ -13,5 +13,5 @@ last c = search (rules, insert_entry-new, not_there)
 pub invariant_of-self-2 : goal.invariant_of-self-2
 invariant_of-self-2 c = grind (arith, common_steps, last ((goal.at.invariant_of-self-2 c).In_ok-insert))
 
-pub returns-clause-new : goal.returns-clause-new
-returns-clause-new c = grind (arith, common_steps, last ((goal.at.returns-clause-new c).In_ok-insert))
+pub returns : goal.returns
+returns c = grind (arith, common_steps, last ((goal.at.returns c).In_ok-insert))

@@ -17,8 +17,8 @@ invariant_of-self c =
     (ap (λ (s : Situation). length s.active) c.self.view_is ∙ sym c.requires))
     c.self.invariant.keyed)
 
-pub returns-clause-new : goal.returns-clause-new
-returns-clause-new c =
+pub returns : goal.returns
+returns c =
     let inside = c.self.inside in
     let a = fixed_of inside.fixed in
     let active = values inside.active in

@@ -1,9 +1,21 @@
 // What there is to see of a situation.
-use crate::{Line, line_of};
 use cps_base::Callsign;
-use situations::Situation;
+use situations::{Active, Situation};
 use std::alloc::{AllocError, Global};
 use std::test::Fail;
+
+// A flight's callsign, estimated second, frozen second and count of those that passed it.
+type Line = (Callsign, u32, Option<u32>, u8);
+
+// The line of a flight.
+fn line_of(active: &Active) -> Line {
+    (
+        active.flight.callsign,
+        active.flight.eta,
+        active.frozen,
+        active.passed,
+    )
+}
 
 /// The flights in order of arrival, then the windows of each and the closures, and the horizon.
 #[derive(Drop)]

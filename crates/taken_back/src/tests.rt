@@ -1,4 +1,0 @@
-mod day;
-mod picture;
-mod refused_memory;
-mod way_back;
