@@ -4,6 +4,7 @@
 mod fault;
 mod reading;
 mod trial;
+mod words;
 
 pub use fault::{TrialCause, TrialFault};
 pub use reading::{MOST_TRIALS, read_trials};

@@ -2,7 +2,7 @@ use Rattle.std.proofs.Common.{rules, tests, sym, ◌∙◌}
 use Rattle.std.proofs.lemmas.Iterator.{YieldsList-from_slice}
 use Rattle.std.proofs.lemmas.Iterator.Search.{all_from_yields_List}
 use Rattle.aerodrome_file.proofs.Items.{is_table, tables_view}
-use Rattle.aerodrome_file.proofs.closures.are_tables.Goals as goal
+use Rattle.aerodrome_file.proofs.tables.are_tables.Goals as goal
 
 pub returns : goal.returns
 returns c =
