@@ -1,20 +1,22 @@
 -- One frozen landing or one count more, behind others.
-use Rattle.std.proofs.Common.{◌≡◌, ℕ, ◌<◌, ◌≤◌, List, length, get_or, take, drop, ◌+◌, ◌-◌, ap, refl, ◌∙◌, Ok, true}
+use Rattle.std.proofs.Common.{◌≡◌, ℕ, ◌<◌, ◌≤◌, List, length, get_or, take, drop, ◌+◌, ◌-◌, refl, Ok, Some, true}
 use Rattle.std.proofs.Common.{false, ◌++◌, ◌∷◌, [], arith, length-append}
 use Rattle.std.proofs.lemmas.List.Folds.{list_any_at}
 use Rattle.std.proofs.lemmas.List.Elements.{All-push}
 use Rattle.std.proofs.lemmas.List.Quantifiers.{all_pairs_push}
 use Rattle.std.proofs.lemmas.Slice.Eq.{bytes_eq-Decides}
-use Rattle.std.proofs.lemmas.List.{take_rest}
 use Rattle.std.specs.Prelude.{bytes_eq, ◌≢◌}
 use Rattle.cps_base.specs.Limits.{most_flights, most_waiting}
 use Rattle.toml.specs.declared.value.Value.{Value}
+use Rattle.toml.specs.Data.{Members, as_table}
 use Rattle.toml.specs.View.{view, items_view}
+use Rattle.aerodrome_file.specs.Tables.{tables_of}
+use Rattle.aerodrome_file.proofs.Items.{first_table}
 use Rattle.arrivals.specs.declared.frozen_list.FrozenLanding.{FrozenLanding}
 use Rattle.arrivals.specs.declared.passed_list.PassedCount.{PassedCount}
 use Rattle.arrivals.specs.Aerodromes.{IsFrozen, AreFrozen, ArePassed}
-use Rattle.aerodrome_file.specs.Frozen.{has_frozen, frozen_of, frozen_from}
-use Rattle.aerodrome_file.specs.Passed.{has_passed, passed_of, passed_from}
+use Rattle.aerodrome_file.specs.Frozen.{has_frozen, frozen_entry, frozen_from}
+use Rattle.aerodrome_file.specs.Passed.{has_passed, passed_entry, passed_from}
 
 pub frozen_more : (clock freeze : ℕ) (fs : List FrozenLanding) (f : FrozenLanding) → AreFrozen clock freeze fs
     → IsFrozen clock freeze f → has_frozen fs f.callsign ≡ false → length fs < most_flights
@@ -44,26 +46,17 @@ passed_more k ps p are here new room = record {
 }
 
 -- the first of the tables that are left joins those before
-pub frozen_step : (i : ℕ) (clock freeze : ℕ) (before : List FrozenLanding) (vs : List Value)
-    (v : Value) (e : FrozenLanding) → v ≡ get_or vs 0 v → 0 < length vs
-    → Ok e ≡ frozen_of i clock freeze before (view v)
-    → frozen_from (i + 1) clock freeze (before ++ e ∷ [])
-    (items_view (take (length vs - 1) (drop 1 vs))) ≡ frozen_from i clock freeze before (items_view vs)
+pub frozen_step : (i clock freeze : ℕ) (before : List FrozenLanding) (vs : List Value) (v : Value) (ms : Members)
+    (e : FrozenLanding) → v ≡ get_or vs 0 v → 0 < length vs → as_table (view v) ≡ Some ms
+    → Ok e ≡ frozen_entry i clock freeze before ms
+    → frozen_from (i + 1) clock freeze (before ++ e ∷ []) (tables_of (items_view (take (length vs - 1) (drop 1 vs))))
+    ≡ frozen_from i clock freeze before (tables_of (items_view vs))
 unfolding frozen_from
-frozen_step i clock freeze before [] v e first some given = absurd (omega (arith, some))
-frozen_step i clock freeze before (w ∷ vs) v e first some given =
-    let here : Ok e ≡ frozen_of i clock freeze before (view w) = rw first at given in
-    let rest : take (length (w ∷ vs) - 1) (drop 1 (w ∷ vs)) ≡ vs = take_rest (w ∷ vs) 1 in
-    ap (λ us. frozen_from (i + 1) clock freeze (before ++ e ∷ []) (items_view us)) rest ∙ rw (← here) refl
+frozen_step i clock freeze before vs v ms e first some is given = rw (first_table vs v first some, is, ← given) refl
 
--- the first of the tables that are left joins those before
-pub passed_step : (i : ℕ) (k : ℕ) (before : List PassedCount) (vs : List Value) (v : Value) (e : PassedCount)
-    → v ≡ get_or vs 0 v → 0 < length vs → Ok e ≡ passed_of i k before (view v)
-    → passed_from (i + 1) k (before ++ e ∷ []) (items_view (take (length vs - 1) (drop 1 vs))) ≡ passed_from i k before
-    (items_view vs)
+pub passed_step : (i k : ℕ) (before : List PassedCount) (vs : List Value) (v : Value) (ms : Members) (e : PassedCount)
+    → v ≡ get_or vs 0 v → 0 < length vs → as_table (view v) ≡ Some ms → Ok e ≡ passed_entry i k before ms
+    → passed_from (i + 1) k (before ++ e ∷ []) (tables_of (items_view (take (length vs - 1) (drop 1 vs))))
+    ≡ passed_from i k before (tables_of (items_view vs))
 unfolding passed_from
-passed_step i k before [] v e first some given = absurd (omega (arith, some))
-passed_step i k before (w ∷ vs) v e first some given =
-    let here : Ok e ≡ passed_of i k before (view w) = rw first at given in
-    let rest : take (length (w ∷ vs) - 1) (drop 1 (w ∷ vs)) ≡ vs = take_rest (w ∷ vs) 1 in
-    ap (λ us. passed_from (i + 1) k (before ++ e ∷ []) (items_view us)) rest ∙ rw (← here) refl
+passed_step i k before vs v ms e first some is given = rw (first_table vs v first some, is, ← given) refl

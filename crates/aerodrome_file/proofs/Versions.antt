@@ -19,8 +19,8 @@ use Rattle.aerodrome_file.specs.declared.fault.Part.TheVariants as part
 use Rattle.aerodrome_file.specs.Keys.{is_known, only_in}
 use Rattle.aerodrome_file.specs.Values.{number_in}
 use Rattle.aerodrome_file.specs.Version.{version_of, HasKeysOf}
-use Rattle.aerodrome_file.specs.Frozen.{clock_in, frozen_in}
-use Rattle.aerodrome_file.specs.Passed.{passed_in}
+use Rattle.aerodrome_file.specs.Frozen.{clock_in, frozen_in, frozen_from}
+use Rattle.aerodrome_file.specs.Passed.{passed_in, passed_from}
 use Rattle.arrivals.specs.Aerodromes.{is_delay, most_shift, is_beyond}
 
 -- a key that a part does not have is at no value
@@ -102,12 +102,13 @@ no_clock (Some d) clock e absent = absurd (cc absent)
 
 pub none_frozen : (clock : Option ℕ) (freeze : ℕ) (d : Option Data) (fs : List FrozenLanding)
     → frozen_in clock freeze d ≡ Ok fs → d ≡ None → fs ≡ []
-unfolding frozen_in
-none_frozen clock freeze None fs e absent = cc e
+unfolding frozen_in frozen_from
+none_frozen None freeze None fs e absent = cc e
+none_frozen (Some now) freeze None fs e absent = cc e
 none_frozen clock freeze (Some d) fs e absent = absurd (cc absent)
 
 pub none_passed : (k : ℕ) (d : Option Data) (ps : List PassedCount) → passed_in k d ≡ Ok ps → d ≡ None → ps ≡ []
-unfolding passed_in
+unfolding passed_in passed_from
 none_passed k None ps e absent = cc e
 none_passed k (Some d) ps e absent = absurd (cc absent)
 

@@ -1,8 +1,8 @@
 -- The clock second and the frozen landings in the file.
-use Rattle.std.specs.Prelude.{ℕ, List, [], ◌∷◌, ◌++◌, Bool, not, ◌+◌, ◌==◌, nat_le, nat_lt, codes, bytes_eq, Option}
+use Rattle.std.specs.Prelude.{ℕ, List, [], ◌∷◌, ◌++◌, Bool, ◌+◌, nat_le, codes, bytes_eq, Option}
 use Rattle.std.specs.Prelude.{Some, None, Result, Ok, Err, if◌then◌else◌}
 use Rattle.std.specs.List.{list_any}
-use Rattle.toml.specs.Data.{Data, array, table, Items, no_items, item, Members}
+use Rattle.toml.specs.Data.{Data, Members}
 use Rattle.cps_base.specs.Answers.{◌>>=◌}
 use Rattle.cps_base.specs.Limits.{most_flights}
 use Rattle.landing_rules.specs.Rules.{last_second}
@@ -11,15 +11,15 @@ use Rattle.aerodrome_file.specs.declared.fault.AeroFault.{AeroFault}
 use Rattle.aerodrome_file.specs.declared.fault.AeroFault.TheVariants as fault
 use Rattle.aerodrome_file.specs.declared.fault.Key.TheVariants as key
 use Rattle.aerodrome_file.specs.declared.fault.Part.TheVariants as part
-use Rattle.aerodrome_file.specs.Values.{integer_of, at_most, named_number}
-use Rattle.aerodrome_file.specs.Closures.{are_tables, items_length}
+use Rattle.aerodrome_file.specs.Values.{integer_of, within, named_number}
+use Rattle.aerodrome_file.specs.Tables.{tables_in}
 
 -- the clock second, none where the key is absent
 unfoldable pub clock_in : Option Data → Result (Option ℕ) AeroFault
 clock_in None = Ok None
 clock_in (Some d) = do
   number ← integer_of key.Clock d
-  now ← at_most key.Clock last_second number
+  now ← within key.Clock 0 last_second number
   Ok (Some now)
 
 -- a landing before has this callsign
@@ -34,34 +34,26 @@ is_late clock freeze second = nat_le (clock + freeze) second
 unfoldable pub frozen_entry : ℕ → ℕ → ℕ → List FrozenLanding → Members → Result FrozenLanding AeroFault
 frozen_entry i clock freeze before ms = do
   named ← named_number (part.Frozen i) (key.FrozenCallsign i) (key.FrozenSecond i) (codes "second") ms
-  at ← at_most (key.FrozenSecond i) last_second named.1
+  at ← within (key.FrozenSecond i) 0 last_second named.1
   if has_frozen before named.0 then Err (fault.FrozenRepeat i)
       else if is_late clock freeze at then Err (fault.FrozenLate i)
       else Ok (record { callsign = named.0; second = at })
 
--- the frozen landing that a value is
-unfoldable pub frozen_of : ℕ → ℕ → ℕ → List FrozenLanding → Data → Result FrozenLanding AeroFault
-frozen_of i clock freeze before (table ms) = frozen_entry i clock freeze before ms
-frozen_of i clock freeze before d = Err (fault.WrongKind key.Frozen)
-
 -- those before and those that tables are, from frozen landing i on
-unfoldable pub frozen_from : ℕ → ℕ → ℕ → List FrozenLanding → Items → Result (List FrozenLanding) AeroFault
-frozen_from i clock freeze before no_items = Ok before
-frozen_from i clock freeze before (item d ds) = do
-  f ← frozen_of i clock freeze before d
-  frozen_from (i + 1) clock freeze (before ++ f ∷ []) ds
+unfoldable pub frozen_from : ℕ → ℕ → ℕ → List FrozenLanding → List Members → Result (List FrozenLanding) AeroFault
+frozen_from i clock freeze before [] = Ok before
+frozen_from i clock freeze before (ms ∷ rest) = do
+  f ← frozen_entry i clock freeze before ms
+  frozen_from (i + 1) clock freeze (before ++ f ∷ []) rest
 
--- the frozen landings of an array that has some
-abbrev pub frozen_after : Option ℕ → ℕ → Items → Result (List FrozenLanding) AeroFault
-frozen_after None freeze ds = Err fault.FrozenNoClock
-frozen_after (Some now) freeze ds = frozen_from 1 now freeze [] ds
+-- the frozen landings that tables are, of which there is none without a clock second
+abbrev pub frozen_by : Option ℕ → ℕ → List Members → Result (List FrozenLanding) AeroFault
+frozen_by (Some now) freeze tables = frozen_from 1 now freeze [] tables
+frozen_by None freeze [] = Ok []
+frozen_by None freeze (ms ∷ rest) = Err fault.FrozenNoClock
 
--- the frozen landings of the file, none where the key is absent
+-- the frozen landings of the file
 unfoldable pub frozen_in : Option ℕ → ℕ → Option Data → Result (List FrozenLanding) AeroFault
-frozen_in clock freeze None = Ok []
-frozen_in clock freeze (Some (array ds)) =
-    if not (are_tables ds) then Err (fault.WrongKind key.Frozen)
-    else if nat_lt most_flights (items_length ds) then Err fault.FrozenTooMany
-    else if items_length ds == 0 then Ok []
-    else frozen_after clock freeze ds
-frozen_in clock freeze (Some d) = Err (fault.WrongKind key.Frozen)
+frozen_in clock freeze value = do
+  tables ← tables_in key.Frozen most_flights fault.FrozenTooMany value
+  frozen_by clock freeze tables

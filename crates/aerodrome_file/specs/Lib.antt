@@ -2,9 +2,11 @@ pub mod Answers
 pub mod KeyText
 pub mod Keys
 pub mod Values
+pub mod Tables
 pub mod Version
 pub mod Separations
 pub mod Closures
 pub mod Frozen
 pub mod Passed
 pub mod Reading
+pub mod Words

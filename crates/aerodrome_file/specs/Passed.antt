@@ -1,8 +1,8 @@
 -- The counts of passed flights in the file.
-use Rattle.std.specs.Prelude.{ℕ, List, [], ◌∷◌, ◌++◌, Bool, not, ◌+◌, nat_lt, codes, bytes_eq, Option, Some, None}
+use Rattle.std.specs.Prelude.{ℕ, List, [], ◌∷◌, ◌++◌, Bool, ◌+◌, codes, bytes_eq, Option}
 use Rattle.std.specs.Prelude.{Result, Ok, Err, if◌then◌else◌}
 use Rattle.std.specs.List.{list_any}
-use Rattle.toml.specs.Data.{Data, array, table, Items, no_items, item, Members}
+use Rattle.toml.specs.Data.{Data, Members}
 use Rattle.cps_base.specs.Answers.{◌>>=◌}
 use Rattle.cps_base.specs.Limits.{most_waiting}
 use Rattle.arrivals.specs.declared.passed_list.PassedCount.{PassedCount}
@@ -11,7 +11,7 @@ use Rattle.aerodrome_file.specs.declared.fault.AeroFault.TheVariants as fault
 use Rattle.aerodrome_file.specs.declared.fault.Key.TheVariants as key
 use Rattle.aerodrome_file.specs.declared.fault.Part.TheVariants as part
 use Rattle.aerodrome_file.specs.Values.{within, named_number}
-use Rattle.aerodrome_file.specs.Closures.{are_tables, items_length}
+use Rattle.aerodrome_file.specs.Tables.{tables_in}
 
 -- an entry before has this callsign
 abbrev pub has_passed : List PassedCount → List ℕ → Bool
@@ -25,23 +25,15 @@ passed_entry i k before ms = do
   if has_passed before named.0 then Err (fault.PassedRepeat i)
       else Ok (record { callsign = named.0; count = passed })
 
--- the entry that a value is
-unfoldable pub passed_of : ℕ → ℕ → List PassedCount → Data → Result PassedCount AeroFault
-passed_of i k before (table ms) = passed_entry i k before ms
-passed_of i k before d = Err (fault.WrongKind key.Passed)
-
 -- those before and those that tables are, from entry i on
-unfoldable pub passed_from : ℕ → ℕ → List PassedCount → Items → Result (List PassedCount) AeroFault
-passed_from i k before no_items = Ok before
-passed_from i k before (item d ds) = do
-  p ← passed_of i k before d
-  passed_from (i + 1) k (before ++ p ∷ []) ds
+unfoldable pub passed_from : ℕ → ℕ → List PassedCount → List Members → Result (List PassedCount) AeroFault
+passed_from i k before [] = Ok before
+passed_from i k before (ms ∷ rest) = do
+  p ← passed_entry i k before ms
+  passed_from (i + 1) k (before ++ p ∷ []) rest
 
--- the entries of the file, none where the key is absent
+-- the entries of the file
 unfoldable pub passed_in : ℕ → Option Data → Result (List PassedCount) AeroFault
-passed_in k None = Ok []
-passed_in k (Some (array ds)) =
-    if not (are_tables ds) then Err (fault.WrongKind key.Passed)
-    else if nat_lt most_waiting (items_length ds) then Err fault.PassedTooMany
-    else passed_from 1 k [] ds
-passed_in k (Some d) = Err (fault.WrongKind key.Passed)
+passed_in k value = do
+  tables ← tables_in key.Passed most_waiting fault.PassedTooMany value
+  passed_from 1 k [] tables

@@ -12,7 +12,7 @@ use Rattle.aerodrome_file.specs.declared.fault.AeroFault.TheVariants as fault
 use Rattle.aerodrome_file.specs.declared.fault.Key.TheVariants as key
 use Rattle.aerodrome_file.specs.declared.fault.Part.TheVariants as part
 use Rattle.aerodrome_file.specs.Keys.{only}
-use Rattle.aerodrome_file.specs.Closures.{items_length}
+use Rattle.aerodrome_file.specs.Tables.{items_length}
 use Rattle.aerodrome_file.specs.Values.{integer_of}
 
 -- an entry of the table, where one second above the greatest separation stands for all above it, and 0 for all below 1

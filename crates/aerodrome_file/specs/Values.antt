@@ -20,11 +20,6 @@ abbrev pub integer_of : Key → Data → Result ℤ AeroFault
 integer_of k (integer z) = Ok z
 integer_of k d = Err (fault.WrongKind k)
 
--- the number from 0 to most that an integer is
-abbrev pub at_most : Key → ℕ → ℤ → Result ℕ AeroFault
-at_most k most (pos n) = if nat_le n most then Ok n else Err (fault.OutOfRange k)
-at_most k most (negsuc n) = Err (fault.OutOfRange k)
-
 -- the number from least to most that an integer is
 abbrev pub within : Key → ℕ → ℕ → ℤ → Result ℕ AeroFault
 within k least most (pos n) = if nat_le least n && nat_le n most then Ok n else Err (fault.OutOfRange k)
@@ -41,11 +36,10 @@ callsign_at k text = if is_callsign text then Ok text else Err (fault.OutOfRange
 
 -- the integer of a key, from least to most
 abbrev pub number_in : Key → ℕ → ℕ → Option Data → Result ℕ AeroFault
-number_in k least most None = Err (fault.MissingKey k)
-number_in k least most (Some (integer (pos n))) = if nat_le least n && nat_le n most then Ok n
-    else Err (fault.OutOfRange k)
-number_in k least most (Some (integer (negsuc n))) = Err (fault.OutOfRange k)
-number_in k least most (Some d) = Err (fault.WrongKind k)
+number_in k least most value = do
+  value ← present k value
+  number ← integer_of k value
+  within k least most number
 
 -- the callsign and the integer of an entry, each at its key
 unfoldable pub named_number : Part → Key → Key → List ℕ → Members → Result (List ℕ × ℤ) AeroFault

@@ -5,11 +5,12 @@ ghost use Rattle.cps_base.specs.Answers.{Gives};
 ghost use Rattle.cps_base.specs.Limits.{most_flights};
 ghost use Rattle.aerodrome_file.specs.Answers.{memory_fault};
 ghost use Rattle.arrivals.specs.Aerodromes.{IsClock, IsFrozen, AreFrozen, AreFrozenBy};
-ghost use Rattle.aerodrome_file.specs.Frozen.{clock_in, has_frozen, is_late, frozen_entry, frozen_of, frozen_from, frozen_in};
+ghost use Rattle.aerodrome_file.specs.Tables.{tables_of};
+ghost use Rattle.aerodrome_file.specs.Frozen.{clock_in, has_frozen, is_late, frozen_entry, frozen_from, frozen_in};
 
-use crate::closures::are_tables;
 use crate::fault::{AeroFault, Key, Part};
-use crate::values::{at_most, integer_of, named_number};
+use crate::tables::tables_in;
+use crate::values::{integer_of, named_number, within};
 use arrivals::{FrozenLanding, FrozenList};
 use cps_base::{Callsign, MOST_FLIGHTS};
 use landing_windows::LAST_SECOND;
@@ -26,7 +27,7 @@ pub(crate) fn clock_in(value: Option<&Value>) -> Result<Option<u32>, AeroFault>
         return Ok(None);
     };
     let number = integer_of(Key::Clock, value)?;
-    let now = at_most(Key::Clock, LAST_SECOND, number)?;
+    let now = within(Key::Clock, 0, LAST_SECOND, number)?;
     Ok(Some(now))
 }
 
@@ -64,7 +65,7 @@ fn frozen_entry(
         "second",
         table,
     )?;
-    let second = at_most(Key::FrozenSecond(number), LAST_SECOND, second)?;
+    let second = within(Key::FrozenSecond(number), 0, LAST_SECOND, second)?;
     if has_frozen(before, callsign) {
         return Err(AeroFault::FrozenRepeat(number));
     }
@@ -74,27 +75,8 @@ fn frozen_entry(
     Ok(FrozenLanding { callsign, second })
 }
 
-// The frozen landing that a value is.
-#[tactic(auto, unfolding(crate::specs::Frozen::frozen_of))]
-fn frozen_of(
-    number: u16,
-    clock: u32,
-    freeze: u32,
-    before: &[FrozenLanding],
-    value: &Value,
-) -> Result<FrozenLanding, AeroFault>
-    ensures value { result ≡ frozen_of number clock freeze before.now (view value.now) }
-    ensures range { IfOk result (IsFrozen clock freeze) }
-    ensures new { IfOk result (λ f. has_frozen before.now f.callsign ≡ false) }
-{
-    let Some(table) = value.as_table() else {
-        return Err(AeroFault::WrongKind(Key::Frozen));
-    };
-    frozen_entry(number, clock, freeze, before, table)
-}
-
 // The frozen landings that tables are.
-#[tactic(auto, unfolding(crate::specs::Frozen::frozen_from))]
+#[tactic(auto, using(crate::proofs::Items::first_table), unfolding(crate::specs::Frozen::frozen_from))]
 fn frozen_from(
     alloc: Global,
     clock: u32,
@@ -102,26 +84,28 @@ fn frozen_from(
     values: &[Value],
 ) -> Result<FrozenList, AeroFault>
     requires { length values.now ≤ most_flights }
-    ensures value { Gives memory_fault result (frozen_from 1 clock freeze [] (items_view
-        values.now)) }
+    ensures value { Gives memory_fault result (frozen_from 1 clock freeze []
+        (tables_of (items_view values.now))) }
     ensures range { IfOk result (AreFrozen clock freeze) }
 {
     let mut entries = Vec::new(alloc);
     let mut number: u16 = 1;
     let mut rest = values;
     while let [first, after @ ..] = rest {
-        let entry = frozen_of(number, clock, freeze, entries.as_slice(), first)?;
-        let Ok(()) = entries.push(entry) else {
-            return Err(AeroFault::Memory);
-        };
-        number += 1;
+        if let Some(table) = first.as_table() {
+            let entry = frozen_entry(number, clock, freeze, entries.as_slice(), table)?;
+            let Ok(()) = entries.push(entry) else {
+                return Err(AeroFault::Memory);
+            };
+            number += 1;
+        }
         rest = after;
     }
     Ok(FrozenList::new(entries))
 }
 
-// The frozen landings of the file, none where the key is absent.
-#[tactic(auto, using(crate::proofs::Items::items_length_view), unfolding(crate::specs::Frozen::frozen_in))]
+// The frozen landings of the file.
+#[tactic(auto, unfolding(crate::specs::Frozen::frozen_in))]
 pub(crate) fn frozen_in(
     alloc: Global,
     clock: Option<u32>,
@@ -132,24 +116,10 @@ pub(crate) fn frozen_in(
         (option_map (λ v. view v.now) value.entry)) }
     ensures range { IfOk result (AreFrozenBy clock freeze) }
 {
-    let Some(value) = value else {
-        return Ok(FrozenList::new(Vec::new(alloc)));
-    };
-    let Some(values) = value.as_array() else {
-        return Err(AeroFault::WrongKind(Key::Frozen));
-    };
-    let values = values.as_slice();
-    if !are_tables(values) {
-        return Err(AeroFault::WrongKind(Key::Frozen));
-    }
-    if values.len() > MOST_FLIGHTS {
-        return Err(AeroFault::FrozenTooMany);
-    }
-    if values.is_empty() {
-        return Ok(FrozenList::new(Vec::new(alloc)));
-    }
+    let values = tables_in(Key::Frozen, MOST_FLIGHTS, AeroFault::FrozenTooMany, value)?;
     match clock {
-        None => Err(AeroFault::FrozenNoClock),
         Some(clock) => frozen_from(alloc, clock, freeze, values),
+        None if values.is_empty() => Ok(FrozenList::new(Vec::new(alloc))),
+        None => Err(AeroFault::FrozenNoClock),
     }
 }

@@ -9,8 +9,10 @@ mod keys;
 mod passed;
 mod reading;
 mod separations;
+mod tables;
 mod values;
 mod version;
+mod words;
 
 pub use arrivals::{Aerodrome, FrozenLanding, FrozenList, PassedCount, PassedList};
 pub use fault::{AeroFault, Key, Part};

@@ -5,10 +5,11 @@ ghost use Rattle.cps_base.specs.Answers.{Gives};
 ghost use Rattle.cps_base.specs.Limits.{most_waiting};
 ghost use Rattle.aerodrome_file.specs.Answers.{memory_fault};
 ghost use Rattle.arrivals.specs.Aerodromes.{ArePassed};
-ghost use Rattle.aerodrome_file.specs.Passed.{has_passed, passed_entry, passed_of, passed_from, passed_in};
+ghost use Rattle.aerodrome_file.specs.Tables.{tables_of};
+ghost use Rattle.aerodrome_file.specs.Passed.{has_passed, passed_entry, passed_from, passed_in};
 
-use crate::closures::are_tables;
 use crate::fault::{AeroFault, Key, Part};
+use crate::tables::tables_in;
 use crate::values::{named_number, within};
 use arrivals::{PassedCount, PassedList};
 use cps_base::{Callsign, MOST_WAITING};
@@ -51,47 +52,31 @@ fn passed_entry(
     })
 }
 
-// The entry that a value is.
-#[tactic(auto, unfolding(crate::specs::Passed::passed_of))]
-fn passed_of(
-    number: u8,
-    k: u8,
-    before: &[PassedCount],
-    value: &Value,
-) -> Result<PassedCount, AeroFault>
-    ensures value { result ≡ passed_of number k before.now (view value.now) }
-    ensures range { IfOk result (λ p. (1 ≤ p.count) × (p.count ≤ k)) }
-    ensures new { IfOk result (λ p. has_passed before.now p.callsign ≡ false) }
-{
-    let Some(table) = value.as_table() else {
-        return Err(AeroFault::WrongKind(Key::Passed));
-    };
-    passed_entry(number, k, before, table)
-}
-
 // The entries that tables are.
-#[tactic(auto, unfolding(crate::specs::Passed::passed_from))]
+#[tactic(auto, using(crate::proofs::Items::first_table), unfolding(crate::specs::Passed::passed_from))]
 fn passed_from(alloc: Global, k: u8, values: &[Value]) -> Result<PassedList, AeroFault>
     requires { length values.now ≤ most_waiting }
-    ensures value { Gives memory_fault result (passed_from 1 k [] (items_view values.now)) }
+    ensures value { Gives memory_fault result (passed_from 1 k [] (tables_of (items_view values.now))) }
     ensures range { IfOk result (ArePassed k) }
 {
     let mut entries = Vec::new(alloc);
     let mut number: u8 = 1;
     let mut rest = values;
     while let [first, after @ ..] = rest {
-        let entry = passed_of(number, k, entries.as_slice(), first)?;
-        let Ok(()) = entries.push(entry) else {
-            return Err(AeroFault::Memory);
-        };
-        number += 1;
+        if let Some(table) = first.as_table() {
+            let entry = passed_entry(number, k, entries.as_slice(), table)?;
+            let Ok(()) = entries.push(entry) else {
+                return Err(AeroFault::Memory);
+            };
+            number += 1;
+        }
         rest = after;
     }
     Ok(PassedList::new(entries))
 }
 
-// The entries of the file, none where the key is absent.
-#[tactic(auto, using(crate::proofs::Items::items_length_view), unfolding(crate::specs::Passed::passed_in))]
+// The entries of the file.
+#[tactic(auto, unfolding(crate::specs::Passed::passed_in))]
 pub(crate) fn passed_in(
     alloc: Global,
     k: u8,
@@ -101,18 +86,10 @@ pub(crate) fn passed_in(
         value.entry)) }
     ensures range { IfOk result (ArePassed k) }
 {
-    let Some(value) = value else {
-        return Ok(PassedList::new(Vec::new(alloc)));
-    };
-    let Some(values) = value.as_array() else {
-        return Err(AeroFault::WrongKind(Key::Passed));
-    };
-    let values = values.as_slice();
-    if !are_tables(values) {
-        return Err(AeroFault::WrongKind(Key::Passed));
-    }
-    if values.len() > usize::from(MOST_WAITING) {
-        return Err(AeroFault::PassedTooMany);
-    }
-    passed_from(alloc, k, values)
+    let most = usize::from(MOST_WAITING);
+    passed_from(
+        alloc,
+        k,
+        tables_in(Key::Passed, most, AeroFault::PassedTooMany, value)?,
+    )
 }

@@ -5,19 +5,20 @@ ghost use Rattle.toml.specs.View.{view, table_view};
 ghost use Rattle.cps_base.specs.Answers.{Gives};
 ghost use Rattle.aerodrome_file.specs.Answers.{memory_fault, GivesTable};
 ghost use Rattle.arrivals.specs.Aerodromes.{IsInRange};
-ghost use Rattle.aerodrome_file.specs.Reading.{document, objective_in, aerodrome_in, aerodrome_of};
+ghost use Rattle.aerodrome_file.specs.Reading.{document, objective_at, aerodrome_in, aerodrome_of};
 
 use crate::closures::closures_in;
 use crate::fault::{AeroFault, Key};
 use crate::frozen::{clock_in, frozen_in};
 use crate::passed::passed_in;
 use crate::separations::table_in;
-use crate::values::{get, number_in};
+use crate::values::{get, number_in, present, string_of};
 use crate::version::version_in;
 use arrivals::{Aerodrome, is_beyond};
 use cps_base::{GREATEST_K, LONGEST_FREEZE};
 use landing_rules::Objective;
 use std::alloc::Global;
+use texts::objective_in;
 use toml::de::Error;
 use toml::{Table, Value};
 
@@ -48,17 +49,13 @@ fn document(alloc: Global, bytes: &[u8]) -> Result<Table, AeroFault>
 }
 
 // What a plan is to make least.
-fn objective_in(value: Option<&Value>) -> Result<Objective, AeroFault>
-    ensures { result ≡ objective_in (option_map (λ v. view v.now) value.entry) }
+fn objective_at(value: Option<&Value>) -> Result<Objective, AeroFault>
+    ensures { result ≡ objective_at (option_map (λ v. view v.now) value.entry) }
 {
-    let Some(value) = value else {
-        return Err(AeroFault::MissingKey(Key::Objective));
-    };
-    match value.as_str() {
-        None => Err(AeroFault::WrongKind(Key::Objective)),
-        Some("makespan") => Ok(Objective::Makespan),
-        Some("delay") => Ok(Objective::Delay),
-        Some(_) => Err(AeroFault::OutOfRange(Key::Objective)),
+    let word = string_of(Key::Objective, present(Key::Objective, value)?)?;
+    match objective_in(word.as_bytes()) {
+        Some(objective) => Ok(objective),
+        None => Err(AeroFault::OutOfRange(Key::Objective)),
     }
 }
 
@@ -71,7 +68,7 @@ fn aerodrome_in(alloc: Global, table: &Table) -> Result<Aerodrome, AeroFault>
     let version = version_in(table)?;
     let k = number_in(Key::K, 0, GREATEST_K as u32, get(table, "k"))?;
     let freeze = number_in(Key::Freeze, 0, LONGEST_FREEZE, get(table, "freeze"))?;
-    let objective = objective_in(get(table, "objective"))?;
+    let objective = objective_at(get(table, "objective"))?;
     let separations = table_in(get(table, "table"))?;
     let closures = closures_in(get(table, "closures"))?;
     let clock = clock_in(get(table, "clock"))?;

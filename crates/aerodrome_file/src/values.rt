@@ -3,7 +3,7 @@ ghost use Rattle.std.specs.Prelude.{◌≡◌, ◌≤◌, IfOk, option_map};
 ghost use Rattle.toml.specs.Data.{get_member};
 ghost use Rattle.toml.specs.View.{view, table_view};
 ghost use Rattle.aerodrome_file.specs.Answers.{Shows, ShowsText};
-ghost use Rattle.aerodrome_file.specs.Values.{present, integer_of, string_of, callsign_at, at_most, within, number_in, named_number};
+ghost use Rattle.aerodrome_file.specs.Values.{present, integer_of, string_of, callsign_at, within, number_in, named_number};
 
 use crate::fault::{AeroFault, Key, Part};
 use crate::keys::only;
@@ -34,18 +34,6 @@ pub(crate) fn integer_of(key: Key, value: &Value) -> Result<i64, AeroFault>
     match value.as_integer() {
         Some(number) => Ok(number),
         None => Err(AeroFault::WrongKind(key)),
-    }
-}
-
-// The number from 0 to `most` that an integer is.
-pub(crate) fn at_most(key: Key, most: u32, number: i64) -> Result<u32, AeroFault>
-    ensures value { result ≡ at_most key most number }
-    ensures range { IfOk result (λ n. n ≤ most) }
-{
-    if number >= 0 && number <= i64::from(most) {
-        Ok(number as u32)
-    } else {
-        Err(AeroFault::OutOfRange(key))
     }
 }
 
@@ -91,17 +79,8 @@ pub(crate) fn number_in(
     ensures value { result ≡ number_in key least most (option_map (λ v. view v.now) value.entry) }
     ensures range { IfOk result (λ n. (least ≤ n) × (n ≤ most)) }
 {
-    let Some(value) = value else {
-        return Err(AeroFault::MissingKey(key));
-    };
-    let Some(number) = value.as_integer() else {
-        return Err(AeroFault::WrongKind(key));
-    };
-    if number >= i64::from(least) && number <= i64::from(most) {
-        Ok(number as u32)
-    } else {
-        Err(AeroFault::OutOfRange(key))
-    }
+    let number = integer_of(key, present(key, value)?)?;
+    within(key, least, most, number)
 }
 
 // The callsign and the integer of an entry, each at its key.

@@ -5,3 +5,4 @@ pub mod Lines
 pub mod Reading
 pub mod Spelling
 pub mod shared
+pub mod Words

@@ -1,4 +1,5 @@
 use std::alloc::{AllocError, AllocFailed};
+use texts::Word;
 use thiserror::Error;
 
 /// Why a text is not a certificate. Lines are numbered from 1.
@@ -34,5 +35,22 @@ impl<T: Drop> From<AllocFailed<T>> for CertFault {
 
     fn from(_: AllocFailed<T>) -> Self {
         CertFault::Memory
+    }
+}
+
+impl CertFault {
+    ghost use Rattle.std.specs.Prelude.{◌≡◌};
+    ghost use Rattle.texts.specs.Words.{words_of};
+    ghost use Rattle.certificate.specs.Words.{certificate_words};
+
+    /// What is wrong with the file, as its line says it; of want of memory there is no word.
+    pub fn words(self) -> [Word<'static>; 2]
+        ensures { words_of result ≡ certificate_words self }
+    {
+        match self {
+            CertFault::Line(line) => [Word::Text(b"line"), Word::Number(line)],
+            CertFault::Order(line) => [Word::Text(b"order"), Word::Number(line)],
+            CertFault::Memory => [Word::Absent; 2],
+        }
     }
 }

@@ -1,6 +1,6 @@
 -- One load more.
 use Rattle.std.proofs.lemmas.Grind.{common_steps}
-use Rattle.std.proofs.Common.{◌≡◌, ◌⊎◌, inl, inr, ℕ, ◌+◌, ◌-◌, ◌<◌, ◌≤◌, List, [], ◌∷◌, ◌++◌, length, take, drop, map}
+use Rattle.std.proofs.Common.{◌≡◌, ◌⊎◌, inl, inr, ℕ, ◌+◌, ◌<◌, ◌≤◌, List, [], ◌∷◌, ◌++◌, length, take, drop, map}
 use Rattle.std.proofs.Common.{String, Global, string_bytes, IsTrue, ap, sym, ◌∙◌, arith, append_assoc}
 use Rattle.std.proofs.Common.{take-append-drop}
 use Rattle.std.specs.List.{AllByRecursion}

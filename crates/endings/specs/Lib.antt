@@ -5,6 +5,5 @@ pub mod Files
 pub mod Lines
 pub mod Loads
 pub mod Outside
-pub mod Pieces
 pub mod Refusing
 pub mod shared

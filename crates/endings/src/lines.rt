@@ -1,19 +1,14 @@
-// The statuses and the lines on the standard error. A line is written piece by piece and takes no memory.
-ghost use Rattle.std.specs.Prelude.{◌≡◌, map};
+// The statuses and the lines on the standard error. A line is written word by word and takes no memory.
+ghost use Rattle.std.specs.Prelude.{◌≡◌, ◌∷◌, [], ◌++◌, codes, decimal};
 ghost use Rattle.cps_outside.specs.SinkState.{Writes};
-ghost use Rattle.endings.specs.Lines.{KeepsQuiet, Says, line_of, line_text, numbered_line, refusal_line, status_of};
-ghost use Rattle.endings.specs.Pieces.{between_line};
+ghost use Rattle.texts.specs.Words.{word_text, words_of};
+ghost use Rattle.endings.specs.Lines.{KeepsQuiet, Says, line_of, line_text, spaced, refusal_words, status_of};
 
-use crate::aerodrome_lines::say_aerodrome;
-use crate::certificate_lines::say_certificate;
-use crate::event_lines::say_events;
-use crate::flight_lines::say_flights;
-use crate::opening_lines::say_opening;
-use crate::plan_lines::say_plan;
-use crate::trial_lines::say_trials;
+use crate::opening_words::opening_words;
 use crate::{Answer, Ending, FilesFault};
 use cps_outside::{Sink, WriteFailed};
 use itoa::Buffer;
+use texts::Word;
 
 /// The status of an ending, 0 to 8.
 pub fn status(ending: &Ending) -> u8
@@ -33,54 +28,70 @@ pub fn status(ending: &Ending) -> u8
     }
 }
 
-// Puts the pieces in their order. The first put that fails is the last.
-pub(crate) fn put_all<E: Sink>(err: &mut E, pieces: &[&[u8]]) -> Result<(), WriteFailed>
-    ensures { Writes (E.state err.old) (E.state err.new)
-        (line_text (map (λ piece. piece.now) pieces.now)) result }
+// Puts a blank and this text.
+fn put_text<E: Sink>(err: &mut E, text: &[u8]) -> Result<(), WriteFailed>
+    ensures { Writes (E.state err.old) (E.state err.new) (codes " " ++ text.now) result }
 {
-    for piece in pieces {
-        err.put(piece)?;
+    err.put(b" ")?;
+    err.put(text)
+}
+
+// Puts a blank, this number and a colon.
+fn put_place<E: Sink>(err: &mut E, n: u32) -> Result<(), WriteFailed>
+    ensures { Writes (E.state err.old) (E.state err.new) (codes " " ++ (decimal n ++ codes ":")) result }
+{
+    put_text(err, Buffer::new().format(n).as_bytes())?;
+    err.put(b":")
+}
+
+// Puts a word behind a blank, if there is one.
+fn put_word<E: Sink>(err: &mut E, word: Word) -> Result<(), WriteFailed>
+    ensures { Writes (E.state err.old) (E.state err.new) (spaced (word_text word.entry)) result }
+{
+    match word {
+        Word::Absent => Ok(()),
+        Word::Text(text) => put_text(err, text),
+        Word::Number(n) => put_text(err, Buffer::new().format(n).as_bytes()),
+        Word::Place(n) => put_place(err, n),
+    }
+}
+
+// Puts words, each behind a blank. The first put that fails is the last.
+fn put_words<E: Sink>(err: &mut E, words: &[Word]) -> Result<(), WriteFailed>
+    ensures { Writes (E.state err.old) (E.state err.new) (spaced (words_of words.now)) result }
+{
+    for word in words {
+        put_word(err, *word)?;
     }
     Ok(())
 }
 
-// Writes a line of words, a number and more words.
-pub(crate) fn say_between<E: Sink>(
-    err: &mut E,
-    before: &'static [u8],
-    number: u32,
-    after: &'static [u8],
-) -> Result<(), WriteFailed>
+// Writes the line of these words.
+fn say_words<E: Sink>(err: &mut E, first: Word, words: &[Word]) -> Result<(), WriteFailed>
     ensures { Writes (E.state err.old) (E.state err.new)
-        (between_line before.now number after.now) result }
+        (line_text (words_of (first.entry ∷ words.now))) result }
 {
-    let mut buffer = Buffer::new();
-    let number = buffer.format(number).as_bytes();
-    put_all(err, &[before, number, after])
-}
-
-// Writes a line of these words and a number.
-pub(crate) fn say_number<E: Sink>(
-    err: &mut E,
-    words: &'static [u8],
-    n: u32,
-) -> Result<(), WriteFailed>
-    ensures { Writes (E.state err.old) (E.state err.new) (numbered_line words.now n) result }
-{
-    say_between(err, words, n, b"\n")
+    err.put(b"cps:")?;
+    put_word(err, first)?;
+    put_words(err, words)?;
+    err.put(b"\n")
 }
 
 fn say_refusal<E: Sink>(err: &mut E, refusal: &FilesFault) -> Result<(), WriteFailed>
-    ensures { Writes (E.state err.old) (E.state err.new) (refusal_line refusal.now) result }
+    ensures { Writes (E.state err.old) (E.state err.new) (line_text (refusal_words refusal.now)) result }
 {
     match refusal {
-        FilesFault::Aerodrome(fault) => say_aerodrome(err, fault),
-        FilesFault::Flights(fault) => say_flights(err, fault),
-        FilesFault::Events(fault) => say_events(err, fault),
-        FilesFault::Certificate(fault) => say_certificate(err, fault),
-        FilesFault::Opening(fault) => say_opening(err, fault),
-        FilesFault::Trials(fault) => say_trials(err, fault),
-        FilesFault::Plan(fault) => say_plan(err, fault),
+        FilesFault::Aerodrome(fault) => say_words(err, Word::Text(b"aerodrome:"), &fault.words()),
+        FilesFault::Flights(fault) => say_words(err, Word::Text(b"flights:"), &fault.words()),
+        FilesFault::Events(fault) => say_words(err, Word::Text(b"events:"), &fault.words()),
+        FilesFault::Certificate(fault) => say_words(
+            err,
+            Word::Text(b"certificate:"),
+            &fault.words(),
+        ),
+        FilesFault::Opening(fault) => say_words(err, Word::Absent, &opening_words(fault)),
+        FilesFault::Trials(fault) => say_words(err, Word::Text(b"trials:"), &fault.words()),
+        FilesFault::Plan(fault) => say_words(err, Word::Text(b"plan:"), &fault.words()),
     }
 }
 
@@ -90,12 +101,20 @@ fn say_line<E: Sink>(err: &mut E, ending: &Ending) -> Result<(), WriteFailed>
 {
     match ending {
         Ending::Answered(_) => Ok(()),
-        Ending::Misused => err.put(b"cps: usage\n"),
+        Ending::Misused => say_words(err, Word::Text(b"usage"), &[]),
         Ending::Refused(refusal) => say_refusal(err, refusal),
-        Ending::NotLoaded(place) => say_between(err, b"cps: file ", *place, b": failed\n"),
-        Ending::NotWritten => err.put(b"cps: write failed\n"),
-        Ending::TooLong(place) => say_between(err, b"cps: file ", *place, b": too long\n"),
-        Ending::NoMemory => err.put(b"cps: no memory\n"),
+        Ending::NotLoaded(place) => say_words(
+            err,
+            Word::Text(b"file"),
+            &[Word::Place(*place), Word::Text(b"failed")],
+        ),
+        Ending::NotWritten => say_words(err, Word::Text(b"write failed"), &[]),
+        Ending::TooLong(place) => say_words(
+            err,
+            Word::Text(b"file"),
+            &[Word::Place(*place), Word::Text(b"too long")],
+        ),
+        Ending::NoMemory => say_words(err, Word::Text(b"no memory"), &[]),
     }
 }
 

@@ -2,3 +2,4 @@ pub mod Spans
 pub mod Columns
 pub mod Kinds
 pub mod Reading
+pub mod Words

@@ -6,6 +6,7 @@ mod fault;
 mod kinds;
 mod reading;
 mod span;
+mod words;
 
 pub use arrivals::Event;
 pub use fault::{Col, FieldCause, LogCause, LogFault};

@@ -4,3 +4,4 @@ pub mod Fields
 pub mod Reading
 pub mod Kept
 pub mod Printed
+pub mod Words

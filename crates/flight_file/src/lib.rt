@@ -7,6 +7,7 @@ mod fields;
 mod printing;
 mod reading;
 mod windows;
+mod words;
 
 pub use after::read_after;
 pub use arrivals::{After, Flight};

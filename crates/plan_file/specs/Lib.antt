@@ -5,3 +5,4 @@ pub mod Lines
 pub mod Reading
 pub mod Printed
 pub mod shared
+pub mod Words

@@ -4,16 +4,8 @@ use Rattle.std.specs.Prelude.{option_and_then, option_map, if◌then◌else◌}
 use Rattle.cps_base.specs.Limits.{greatest_value}
 use Rattle.landing_rules.specs.Rules.{last_second}
 use Rattle.landing_rules.specs.declared.objective.Objective.{Objective}
-use Rattle.landing_rules.specs.declared.objective.Objective.TheVariants.{Makespan, Delay}
 use Rattle.landing_rules.specs.Text.{ShownLanding}
-use Rattle.texts.specs.Parts.{parts, number_in, callsign_in}
-
--- the objective that a word names
-abbrev pub objective_in : List ℕ → Option Objective
-objective_in word =
-    if bytes_eq word (codes "makespan") then Some Makespan
-    else if bytes_eq word (codes "delay") then Some Delay
-    else None
+use Rattle.texts.specs.Parts.{parts, number_in, callsign_in, objective_in}
 
 unfoldable pub head_by : List (List ℕ) → Option (Objective × ℕ)
 head_by (word ∷ value ∷ []) =

@@ -2,7 +2,7 @@
 ghost use Rattle.std.specs.Prelude.{◌≡◌, ◌≤◌, ◌+◌, IfOk, option_map};
 ghost use Rattle.cps_base.specs.Limits.{most_flights};
 ghost use Rattle.plan_file.specs.Shown.{shown_of};
-ghost use Rattle.plan_file.specs.Lines.{head_in, landing_from, landing_in, mark_in, objective_in};
+ghost use Rattle.plan_file.specs.Lines.{head_in, landing_from, landing_in, mark_in};
 ghost use Rattle.plan_file.specs.Reading.{GivesLanding, line_in};
 
 use crate::landing::Landing;
@@ -10,20 +10,7 @@ use crate::plan::PlanFault;
 use cps_base::{Callsign, GREATEST_VALUE, MOST_FLIGHTS};
 use landing_rules::Objective;
 use landing_windows::LAST_SECOND;
-use texts::{four_parts, number_in, two_parts};
-
-// The objective that a word names.
-fn objective_in(word: &[u8]) -> Option<Objective>
-    ensures { result ≡ objective_in word.now }
-{
-    if word == b"makespan".as_slice() {
-        Some(Objective::Makespan)
-    } else if word == b"delay".as_slice() {
-        Some(Objective::Delay)
-    } else {
-        None
-    }
-}
+use texts::{four_parts, number_in, objective_in, two_parts};
 
 // The objective and the number that the first line says.
 #[tactic(auto, unfolding(crate::specs::Lines::head_in, crate::specs::Lines::head_by))]

@@ -1,5 +1,6 @@
 use crate::block::Block;
 use std::alloc::{AllocError, AllocFailed};
+use texts::Word;
 use thiserror::Error;
 
 /// What a plan file says.
@@ -41,5 +42,21 @@ impl<T: Drop> From<AllocFailed<T>> for PlanFault {
 
     fn from(_: AllocFailed<T>) -> Self {
         PlanFault::Memory
+    }
+}
+
+impl PlanFault {
+    ghost use Rattle.std.specs.Prelude.{◌≡◌};
+    ghost use Rattle.texts.specs.Words.{words_of};
+    ghost use Rattle.plan_file.specs.Words.{plan_words};
+
+    /// What is wrong with the file, as its line says it; of want of memory there is no word.
+    pub fn words(self) -> [Word<'static>; 2]
+        ensures { words_of result ≡ plan_words self }
+    {
+        match self {
+            PlanFault::Line(line) => [Word::Text(b"line"), Word::Number(line)],
+            PlanFault::Memory => [Word::Absent; 2],
+        }
     }
 }

@@ -5,6 +5,7 @@ mod fault;
 mod reading;
 mod shared;
 mod trial;
+mod words;
 
 pub use fault::{TrialCause, TrialFault};
 pub use reading::{MOST_TRIALS, read_trials};
