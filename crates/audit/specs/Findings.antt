@@ -23,7 +23,7 @@ finding_of (code.Precedence c d) = rules.Precedence c d
 finding_of (code.Moved c t) = rules.Moved c t
 finding_of (code.Early c) = rules.Early c
 finding_of (code.Shift c p r) = rules.Shift c p r
-finding_of code.OtherObjective = rules.OtherObjective
+finding_of code.Objective = rules.OtherObjective
 finding_of (code.Value v) = rules.Value v
 
 -- the findings grew by these

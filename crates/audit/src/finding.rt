@@ -26,7 +26,7 @@ pub enum Finding {
     /// A waiting flight too far from its rank: its place and its rank.
     Shift(Callsign, u32, u32),
     /// The block's word is not the aerodrome's objective.
-    OtherObjective,
+    Objective,
     /// The block's number is not the objective of its seconds, which is this.
     Value(u64),
 }

@@ -26,7 +26,7 @@ fn other_objective(
     ensures { OnOk result (Finds all.old.items all.new.items (other_objective said meant)) }
 {
     if !is_objective(said, meant) {
-        all.push(Finding::OtherObjective)?;
+        all.push(Finding::Objective)?;
     }
     Ok(())
 }

@@ -26,7 +26,7 @@ fn word(finding: &Finding) -> &'static [u8]
         Finding::Moved(_, _) => b"moved ",
         Finding::Early(_) => b"early ",
         Finding::Shift(_, _, _) => b"shift ",
-        Finding::OtherObjective => b"objective",
+        Finding::Objective => b"objective",
         Finding::Value(_) => b"value ",
     }
 }
@@ -89,7 +89,7 @@ fn append_detail(finding: &Finding, into: &mut Vec<u8>) -> Result<(), AllocError
         Finding::Shift(c, p, r) => append_shift(c, *p, *r, into),
         Finding::Order(i) => append_number(u64::from(*i), into),
         Finding::Value(v) => append_number(*v, into),
-        Finding::OtherObjective => Ok(()),
+        Finding::Objective => Ok(()),
     }
 }
 

@@ -253,12 +253,11 @@ impl Sequencer<AnyKept> {
     {
         every_step_keeps_soundness();
         clock_keeps_plans();
-        let next = self
-            .situation
-            .after(alloc, seconds_of(&self.shown), event)?;
+        let next = self.situation.after(alloc, seconds_of(&self.shown), event)?;
+        let front = plan_in(&self.shown);
         let asked = Asked {
             situation: &next,
-            front: plan_in(&self.shown),
+            front,
         };
         let (problem, shown) = planned(rt, alloc, asked, &mut self.planner, gate, steps)?;
         self.situation = next;
