@@ -1,4 +1,4 @@
-use Rattle.std.proofs.Common.{None, sym, subst}
+use Rattle.std.proofs.Common.{None, sym, subst, ◌∙◌}
 use Rattle.landing_rules.specs.Events.{Close}
 use Rattle.landing_rules.specs.Sound.{IsSound}
 use Rattle.whatif.proofs.OutcomeLemmas.{event_accepted}
